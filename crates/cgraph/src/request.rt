@@ -1,0 +1,49 @@
+// What a line asks for.
+ghost use mathlib.Core.Path.{_≡_};
+ghost use Prim.Native.Nat.{min};
+use crate::kind::Kind;
+use history::ObjectId;
+
+// A label kind and the lengths of the tables.
+#[derive(Clone, Copy)]
+pub struct Opening {
+    pub kind: Kind,
+    pub rows: usize,
+    pub labels: usize,
+    pub order: usize,
+    pub parents: usize,
+}
+
+impl Opening {
+    // How many commits such tables take.
+    pub fn capacity(self) -> usize
+        ensures { λ r. ⌜ r ≡ min (min (self .rows) (self .labels)) (min (self .order) 65536) ⌝ }
+    {
+        self.rows.min(self.labels).min(self.order.min(65_536))
+    }
+
+    // How many listed parents such tables take.
+    pub fn parent_capacity(self) -> usize
+        ensures { λ r. ⌜ r ≡ min (self .parents) 262144 ⌝ }
+    {
+        self.parents.min(262_144)
+    }
+}
+
+#[derive(Drop)]
+pub struct Addition {
+    pub id: ObjectId,
+    pub tree: ObjectId,
+    pub date: u64,
+    pub parents: Vec<u32>,
+}
+
+#[derive(Drop)]
+pub enum Request {
+    // a blank line or a comment
+    Nothing,
+    Open(Opening),
+    Add(Addition),
+    Find(ObjectId),
+    Show(u32),
+}

@@ -1,0 +1,98 @@
+// Serving requests.
+use crate::input::Next;
+use crate::input::Requests;
+use crate::parse_error::ParseErrorDisplay;
+use crate::request::Addition;
+use crate::request::Opening;
+use crate::request::Request;
+use crate::show::CommitLine;
+use crate::show::CommitLineDisplay;
+use crate::show::ShowLabel;
+use history::CommitGraph;
+use history::ObjectId;
+use history::RefusalDisplay;
+use labels::LabelKind;
+use std::io;
+
+fn add<K: LabelKind>(
+    rt: &LibcRuntime,
+    graph: &mut CommitGraph<'_, K>,
+    commit: Addition,
+) -> io::Result<()> {
+    match graph.add(
+        commit.id,
+        commit.tree,
+        commit.date,
+        commit.parents.as_slice(),
+    ) {
+        Ok(number) => println!(rt, "added {number}"),
+        Err(refusal) => {
+            let number = refusal.number();
+            println!(rt, "refused {number} {refusal}")
+        }
+    }
+}
+
+fn find<K: LabelKind>(
+    rt: &LibcRuntime,
+    graph: &CommitGraph<'_, K>,
+    id: ObjectId,
+) -> io::Result<()> {
+    match graph.find(id) {
+        Some(number) => println!(rt, "found {number}"),
+        None => rt.println("none"),
+    }
+}
+
+fn show<K: ShowLabel>(rt: &LibcRuntime, graph: &CommitGraph<'_, K>, number: u32) -> io::Result<()> {
+    match (
+        graph.commit(number),
+        graph.label(number),
+        graph.parents(number),
+    ) {
+        (Some(row), Some(label), Some(parents)) => {
+            let line: CommitLine<'_, K> = CommitLine {
+                number,
+                row,
+                label,
+                parents,
+            };
+            rt.println(line)
+        }
+        _ => rt.println("none"),
+    }
+}
+
+// Serves requests until the next `open`, which it hands back, or the end of the input.
+pub fn serve<K: ShowLabel>(
+    rt: &LibcRuntime,
+    requests: &mut Requests,
+    graph: &mut CommitGraph<'_, K>,
+) -> io::Result<Option<Opening>> {
+    for _ in 0..u64::MAX {
+        match requests.next()? {
+            Next::End => break,
+            Next::Error(e) => println!(rt, "error {e}")?,
+            Next::Request(Request::Nothing) => {}
+            Next::Request(Request::Open(opening)) => return Ok(Some(opening)),
+            Next::Request(Request::Add(commit)) => add(rt, graph, commit)?,
+            Next::Request(Request::Find(id)) => find(rt, graph, id)?,
+            Next::Request(Request::Show(number)) => show(rt, graph, number)?,
+        }
+    }
+    Ok(None)
+}
+
+// Serves requests while no history is open.
+pub fn wait(rt: &LibcRuntime, requests: &mut Requests) -> io::Result<Option<Opening>> {
+    for _ in 0..u64::MAX {
+        match requests.next()? {
+            Next::End => break,
+            Next::Error(e) => println!(rt, "error {e}")?,
+            Next::Request(Request::Nothing) => {}
+            Next::Request(Request::Open(opening)) => return Ok(Some(opening)),
+            Next::Request(_) => rt.println("error no history is open")?,
+        }
+    }
+    Ok(None)
+}

@@ -1,0 +1,5 @@
+pub mod Few
+pub mod Fronts
+pub mod Members
+pub mod Ranks
+pub mod Sifts

@@ -1,0 +1,10 @@
+pub mod Adding
+pub mod Chains
+pub mod Commits
+pub mod Finding
+pub mod Ids
+pub mod Lists
+pub mod Making
+pub mod Pushes
+pub mod Reading
+pub mod Refusing

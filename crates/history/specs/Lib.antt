@@ -1,0 +1,11 @@
+pub mod Ids
+pub mod History
+pub mod Labels
+pub mod Generations
+pub mod Refusals
+pub mod Tables
+pub mod Model
+pub mod Graph
+pub mod Order
+pub mod Room
+pub mod Reading
