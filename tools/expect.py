@@ -11,6 +11,9 @@ WORDS = {
     4: "the id is held already",
     5: "there is no room for one commit more",
     6: "there is no room for the parents",
+    7: "the marks or the queue are too short",
+    8: "the list for the results is too short, %d needed",
+    9: "a named commit is not held",
 }
 
 
@@ -21,6 +24,10 @@ class Numbers:
 
     def grow(self, x, p):
         return max(x, min(p + 1, self.top))
+
+    # Whether a commit with the label x may reach one with the label y.
+    def may(self, x, y):
+        return x > y or x >= self.top
 
     def text(self, x):
         return str(x)
@@ -33,6 +40,9 @@ class Blank:
     def grow(self, x, p):
         return None
 
+    def may(self, x, y):
+        return True
+
     def text(self, x):
         return "-"
 
@@ -43,6 +53,9 @@ class Interval:
 
     def grow(self, x, p):
         return (min(x[0], p[0]), max(x[1], min(p[1] + 1, 2**32 - 1)))
+
+    def may(self, x, y):
+        return x[0] <= y[0] and (x[1] > y[1] or x[1] >= 2**32 - 1)
 
     def text(self, x):
         return "%d..%d" % x
@@ -58,6 +71,9 @@ class Pair:
 
     def grow(self, x, p):
         return (self.a.grow(x[0], p[0]), self.b.grow(x[1], p[1]))
+
+    def may(self, x, y):
+        return self.a.may(x[0], y[0]) and self.b.may(x[1], y[1])
 
     def text(self, x):
         return "(%s, %s)" % (self.a.text(x[0]), self.b.text(x[1]))
@@ -115,6 +131,68 @@ class History:
         )
         return n
 
+    # Every commit that the commit reaches, with itself.
+    def reached(self, n):
+        return self.closure([n], lambda k: True)
+
+    # The commits on the chains from some commits through parents whose members all pass the test.
+    def closure(self, starts, test):
+        found, waiting = set(), list(starts)
+        while waiting:
+            k = waiting.pop()
+            if k not in found and test(k):
+                found.add(k)
+                waiting += self.commits[k]["parents"]
+        return found
+
+    def is_open(self, k, target):
+        label = [self.commits[x]["label"] for x in (k, target)]
+        return k == target or self.kind.may(*label)
+
+    def fits(self, named, lengths):
+        return all(lengths.get(b, len(self.commits)) > max(named) for b in ("marks", "queue"))
+
+    def holds(self, named):
+        return max(named) < len(self.commits)
+
+    def contains(self, target, tips, lengths):
+        named = [target] + tips
+        if not self.holds(named):
+            return refused(9)
+        if lengths.get("results", len(tips)) < len(tips):
+            return refused(8, len(tips))
+        if not self.fits(named, lengths):
+            return refused(7)
+        trail = self.closure(tips, lambda k: k >= target and self.is_open(k, target))
+        words = ["yes" if target in self.reached(t) else "no" for t in tips]
+        return " ".join(["contains"] + words + ["visits", str(len(trail))])
+
+    def ahead_behind(self, a, b, lengths):
+        if not self.holds([a, b]):
+            return refused(9)
+        if not self.fits([a, b], lengths):
+            return refused(7)
+        ra, rb = self.reached(a), self.reached(b)
+        return "ahead %d behind %d" % (len(ra - rb), len(rb - ra))
+
+    def merge_bases(self, a, b, lengths):
+        if not self.holds([a, b]):
+            return refused(9)
+        if not self.fits([a, b], lengths):
+            return refused(7)
+        common = self.reached(a) & self.reached(b)
+        bases = [k for k in common if not any(k in self.reached(c) for c in common if c != k)]
+        words = [str(k) for k in sorted(bases, reverse=True)]
+        room = lengths.get("results", len(self.commits))
+        if room < len(words):
+            return " ".join([refused(8, len(words)), "holds"] + words[:room])
+        return " ".join(["merge-bases"] + (words or ["none"]))
+
+
+def refused(number, needed=None):
+    words = WORDS[number] if needed is None else WORDS[number] % needed
+    return "refused %d %s" % (number, words)
+
 
 class Bad(Exception):
     pass
@@ -153,6 +231,22 @@ def done(words, at):
         raise Bad("word %d is one too many" % (at + 1))
 
 
+# The options from a place on, each of which sets a length.
+def options(words, at, names):
+    lengths = {}
+    for k in range(at, len(words)):
+        name, sign, value = words[k].partition("=")
+        if not sign or name not in names:
+            raise Bad("word %d is not an option of the request" % (k + 1))
+        what = "the length of the " + name
+        if name in lengths:
+            raise Bad("word %d sets %s again" % (k + 1, what))
+        if not re.fullmatch("[0-9]+", value) or int(value) > 1000000:
+            raise Bad("word %d: %s is not a decimal number up to 1000000" % (k + 1, what))
+        lengths[name] = int(value)
+    return lengths
+
+
 def kind_of(words):
     w = take(words, 1, "the label kind")
     parts = w.split("+")
@@ -181,19 +275,37 @@ def answer(state, words):
     elif words[0] == "show":
         n = decimal(words, 1, "the commit's number", 2**32 - 1)
         done(words, 2)
+    elif words[0] == "contains":
+        target = decimal(words, 1, "the target's number", 2**32 - 1)
+        end = 2
+        while end < len(words) and "=" not in words[end]:
+            end += 1
+        tips = [decimal(words, k, "a tip", 2**32 - 1) for k in range(2, end)]
+        lengths = options(words, end, ["results", "marks", "queue"])
+    elif words[0] in ("ahead-behind", "merge-bases"):
+        a = decimal(words, 1, "the first commit's number", 2**32 - 1)
+        b = decimal(words, 2, "the second commit's number", 2**32 - 1)
+        names = ["marks", "queue"] + (["results"] if words[0] == "merge-bases" else [])
+        lengths = options(words, 3, names)
     else:
-        raise Bad("word 1 is not open, add, find or show")
+        raise Bad("word 1 is not open, add, find, show, contains, ahead-behind or merge-bases")
     h = state["history"]
     if h is None:
         raise Bad("no history is open")
     if words[0] == "add":
         r = h.refusal(i, date, parents)
         if r:
-            return "refused %d %s" % (r, WORDS[r])
+            return refused(r)
         return "added %d" % h.add(i, tree, date, parents)
     if words[0] == "find":
         n = h.find(i)
         return "none" if n is None else "found %d" % n
+    if words[0] == "contains":
+        return h.contains(target, tips, lengths)
+    if words[0] == "ahead-behind":
+        return h.ahead_behind(a, b, lengths)
+    if words[0] == "merge-bases":
+        return h.merge_bases(a, b, lengths)
     if n >= len(h.commits):
         return "none"
     c = h.commits[n]

@@ -1,10 +1,10 @@
 // Requests from standard input.
 ghost use Prim.Native.Nat.{_≤_};
 ghost use lib.ListN.{length};
-use crate::limits::LONGEST_LINE;
-use crate::parse::parse;
-use crate::parse_error::ParseError;
-use crate::request::Request;
+use protocol::LONGEST_LINE;
+use protocol::ParseError;
+use protocol::Request;
+use protocol::parse;
 use std::alloc::Global;
 use std::io;
 use std::io::BufRead;

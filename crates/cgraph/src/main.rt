@@ -1,13 +1,8 @@
 // Serves a commit history: requests on standard input, one a line, and an answer to each on standard output.
-mod base_kind;
-mod hex;
+mod ask;
+mod buffers;
 mod input;
-mod kind;
-mod limits;
 mod open;
-mod parse;
-mod parse_error;
-mod request;
 mod serve;
 mod show;
 

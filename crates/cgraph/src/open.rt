@@ -1,9 +1,6 @@
 // Opening a history of the kind that a request names.
-use crate::base_kind::BaseKind;
+use crate::buffers::filled;
 use crate::input::Requests;
-use crate::kind::Kind;
-use crate::kind::KindDisplay;
-use crate::request::Opening;
 use crate::serve::serve;
 use crate::serve::wait;
 use crate::show::ShowBlank;
@@ -29,6 +26,10 @@ use labels::Pair;
 use labels::PairKind;
 use labels::Stepped;
 use labels::SteppedKind;
+use protocol::BaseKind;
+use protocol::Kind;
+use protocol::KindDisplay;
+use protocol::Opening;
 use std::alloc::AllocError;
 use std::alloc::Global;
 use std::io;
@@ -51,15 +52,6 @@ struct Tables<L: Drop> {
     labels: Vec<L>,
     order: Vec<u32>,
     parents: Vec<u32>,
-}
-
-// `vec!` would ask labels for `Clone`.
-fn filled<T: Copy + Drop>(heap: Global, x: T, size: usize) -> Result<Vec<T>, AllocError> {
-    let mut items = Vec::with_capacity(heap, size)?;
-    for _ in 0..size {
-        items.push(x)?;
-    }
-    Ok(items)
 }
 
 fn make_tables<K: LabelKind>(

@@ -1,17 +1,20 @@
 // Serving requests.
+use crate::ask::ask_ahead_behind;
+use crate::ask::ask_contains;
+use crate::ask::ask_merge_bases;
+use crate::ask::tell_refusal;
 use crate::input::Next;
 use crate::input::Requests;
-use crate::parse_error::ParseErrorDisplay;
-use crate::request::Addition;
-use crate::request::Opening;
-use crate::request::Request;
 use crate::show::CommitLine;
 use crate::show::CommitLineDisplay;
 use crate::show::ShowLabel;
 use history::CommitGraph;
 use history::ObjectId;
-use history::RefusalDisplay;
 use labels::LabelKind;
+use protocol::Addition;
+use protocol::Opening;
+use protocol::ParseErrorDisplay;
+use protocol::Request;
 use std::io;
 
 fn add<K: LabelKind>(
@@ -26,10 +29,7 @@ fn add<K: LabelKind>(
         commit.parents.as_slice(),
     ) {
         Ok(number) => println!(rt, "added {number}"),
-        Err(refusal) => {
-            let number = refusal.number();
-            println!(rt, "refused {number} {refusal}")
-        }
+        Err(refusal) => tell_refusal(rt, refusal),
     }
 }
 
@@ -78,6 +78,9 @@ pub fn serve<K: ShowLabel>(
             Next::Request(Request::Add(commit)) => add(rt, graph, commit)?,
             Next::Request(Request::Find(id)) => find(rt, graph, id)?,
             Next::Request(Request::Show(number)) => show(rt, graph, number)?,
+            Next::Request(Request::Contains(question)) => ask_contains(rt, graph, question)?,
+            Next::Request(Request::AheadBehind(question)) => ask_ahead_behind(rt, graph, question)?,
+            Next::Request(Request::MergeBases(question)) => ask_merge_bases(rt, graph, question)?,
         }
     }
     Ok(None)

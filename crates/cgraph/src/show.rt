@@ -1,6 +1,4 @@
 // What answers show of labels and commits.
-use crate::hex::HexId;
-use crate::hex::HexIdDisplay;
 use history::CommitRow;
 use labels::Blank;
 use labels::BlankKind;
@@ -13,6 +11,8 @@ use labels::Span;
 use labels::Step;
 use labels::Stepped;
 use labels::SteppedKind;
+use protocol::HexId;
+use protocol::HexIdDisplay;
 use std::fmt;
 
 // A label kind whose labels can be written.
@@ -53,6 +53,32 @@ pub impl<A: ShowLabel, B: ShowLabel> ShowLabel for Pair<A, B> as ShowPair {
     }
 }
 
+// Numbers, each after a space.
+#[derive(Clone, Copy)]
+pub struct Numbers<'a>(pub &'a [u32]);
+
+pub impl<'a> fmt::Display for Numbers<'a> as NumbersDisplay {
+    fn fmt<W: fmt::Write>(&self, f: &mut fmt::Formatter<W>) -> fmt::Result {
+        for number in self.0 {
+            write!(f, " {number}")?;
+        }
+        Ok(())
+    }
+}
+
+// Results that are 1 or 0 as yes or no, each after a space.
+#[derive(Clone, Copy)]
+pub struct Verdicts<'a>(pub &'a [u8]);
+
+pub impl<'a> fmt::Display for Verdicts<'a> as VerdictsDisplay {
+    fn fmt<W: fmt::Write>(&self, f: &mut fmt::Formatter<W>) -> fmt::Result {
+        for result in self.0 {
+            f.write_str(if *result == 1 { " yes" } else { " no" })?;
+        }
+        Ok(())
+    }
+}
+
 // The line that shows a commit.
 #[derive(Drop)]
 pub struct CommitLine<'a, K: LabelKind> {
@@ -80,9 +106,7 @@ pub impl<'a, K: ShowLabel> fmt::Display for CommitLine<'a, K> as CommitLineDispl
         if self.parents.is_empty() {
             return f.write_str(" none");
         }
-        for p in self.parents {
-            write!(f, " {p}")?;
-        }
-        Ok(())
+        let parents = Numbers(self.parents);
+        write!(f, "{parents}")
     }
 }

@@ -1,7 +1,7 @@
 -- A queue of different elements has at most as many entries as there are numbers for them. Assumes nothing.
-use mathlib.Core.Path.{_≡_, sym, ap, _∙_}
+use mathlib.Core.Path.{_≡_, refl, sym, ap, _∙_}
 use mathlib.Core.Bool.{cond}
-use mathlib.Core.List.{List}
+use mathlib.Core.List.{List, _∷_}
 use mathlib.Core.Logic.{_⊎_, inl, inr, ⊎-elim}
 use Prim.Native.Nat.{ℕ, zero, suc, _+_, _-_, _≤_, _<_}
 use native.Mathlib.Omega.{arith}
@@ -65,3 +65,23 @@ pub distinct-few : {X : Type 0} (number : X → ℕ) (xs : List X) (n m : ℕ) (
     ((j k : ℕ) → j < n → k < n → number (getD xs j d) ≡ number (getD xs k d) → getD xs j d ≡ getD xs k d) → Distinct xs n → n ≤ m
 unfolding Distinct
 distinct-few number xs n m d low told w = few m n (λ k. number (getD xs k d)) low (λ j k p q e. w j k d p q (told j k p q e))
+
+-- and a new element has a number of its own
+module _ {X : Type 0} (number : X → ℕ) (xs : List X) (n m : ℕ) (x d : X) (new : number x < m) (low : (k : ℕ) → k < n → number (getD xs k d) < m)
+    (fresh : (k : ℕ) → k < n → number (getD xs k d) ≡ number x → ⊥)
+    (told : (j k : ℕ) → j < n → k < n → number (getD xs j d) ≡ number (getD xs k d) → getD xs j d ≡ getD xs k d) where
+  low-cons : (k : ℕ) → k < suc n → number (getD (x ∷ xs) k d) < m
+  low-cons zero lt = new
+  low-cons (suc k) lt = low k (omega arith)
+
+  once-cons : Distinct xs n → (j k : ℕ) → j < suc n → k < suc n → number (getD (x ∷ xs) j d) ≡ number (getD (x ∷ xs) k d) → j ≡ k
+  unfolding Distinct
+  once-cons w zero zero p q e = refl
+  once-cons w zero (suc k) p q e = absurd (fresh k (omega arith) (sym e))
+  once-cons w (suc j) zero p q e = absurd (fresh j (omega arith) e)
+  once-cons w (suc j) (suc k) p q e =
+      let same = w j k d (omega arith) (omega arith) (told j k (omega arith) (omega arith) e) in omega arith
+
+  pub fresh-few : Distinct xs n → n < m
+  fresh-few w =
+      let all = few m (suc n) (λ k. number (getD (x ∷ xs) k d)) low-cons (once-cons w) in omega arith

@@ -2,6 +2,7 @@
 // lends, the same for every kind of element.
 mod elements;
 mod heap;
+mod marks;
 mod order;
 mod queue;
 
@@ -11,6 +12,7 @@ pub use elements::ByLevel;
 pub use elements::ByLevelRanked;
 pub use elements::ByNumber;
 pub use elements::ByNumberRanked;
+pub use marks::clear;
 pub use order::Ranked;
 pub use queue::push;
 pub use queue::take_out;

@@ -8,7 +8,7 @@ use lib.ListN.{length, getD, take}
 use Rattle.std.specs.Iters.{folded}
 use Rattle.std.proofs.shelf.Tests.{cases-lt}
 use Rattle.std.proofs.shelf.Lists.{append-nil, append-assoc, getD-at, take-at, length-push, getD-take, getD-default}
-use Rattle.history.specs.History.{Commit, commit-of, parents-of, Parent, Chain}
+use Rattle.history.specs.History.{Commit, commit-of, parents-of, Parent, Chain, Reaches}
 use Rattle.history.specs.History.Chain.{here, onward}
 use Rattle.history.specs.Labels.{made, labels-after, labels-of}
 use Rattle.history.specs.Generations.{above, Greatest}
@@ -122,3 +122,16 @@ module _ (h : List Commit) (falling : (a p : ℕ) → Parent h a p → p < a) (f
   -- each value is the greatest over the chains of parents from its commit
   pub greatest : (a : ℕ) → a < length h → Greatest h (λ c. f (c .date)) a (getD values a 0)
   greatest a lt = greatest-below (suc a) a (omega arith) lt
+
+-- chains one after the other
+pub chain-on : (h : List Commit) (x y z i j : ℕ) → Chain h x y i → Chain h y z j → Reaches h x z
+chain-on h x y z i j here d = (j, d)
+chain-on h x y z i j (onward {p = p} {k = k} q c) d = let r = chain-on h p y z k j c d in (suc (r .0), onward q (r .1))
+
+pub reaches-on : (h : List Commit) (x y z : ℕ) → Reaches h x y → Reaches h y z → Reaches h x z
+reaches-on h x y z r s = chain-on h x y z (r .0) (s .0) (r .1) (s .1)
+
+-- where parents come before their children, a chain never rises
+pub chain-falls : (h : List Commit) → ((a p : ℕ) → Parent h a p → p < a) → (x k j : ℕ) → Chain h x k j → k ≤ x
+chain-falls h falling x k j here = omega arith
+chain-falls h falling x k j (onward {p = p} {k = i} q c) = omega (arith, falling x p q, chain-falls h falling p k i c)

@@ -15,6 +15,10 @@ module _ {K L : Type 0} (g : CommitGraph K L) where
   abbrev pub history : List Commit
   history = commits (now (g .rows .items)) (now (g .parents .items)) (g .count)
 
+  -- the label of each commit
+  abbrev pub labels : List L
+  labels = take (g .count) (now (g .labels .items))
+
   -- the shortest of the tables with one entry a commit, and at most 65,536
   abbrev pub capacity : ℕ
   capacity = min (min (length (now (g .rows .items))) (length (now (g .labels .items)))) (min (length (now (g .order .items))) 65536)

@@ -9,3 +9,4 @@ pub mod Graph
 pub mod Order
 pub mod Room
 pub mod Reading
+pub mod Counting

@@ -9,6 +9,7 @@ mod order;
 mod read;
 mod refusal;
 mod row;
+mod steps;
 mod table;
 
 pub use graph::CommitGraph;

@@ -16,14 +16,14 @@ use labels::LabelKind;
 
 impl<'a, K: LabelKind> CommitGraph<'a, K> {
     // How many entries of the tables hold commits.
-    fn held(&self) -> usize
+    pub fn held(&self) -> usize
         ensures { λ r. ⌜ r ≡ now (self .entry) .count ⌝ }
     {
         self.count
     }
 
     // The commit's entry in the table of commits.
-    fn row(&self, number: usize) -> CommitRow
+    pub(crate) fn row(&self, number: usize) -> CommitRow
         requires { ⌜ number < now self .count ⌝ }
         ensures { λ r. ⌜ r ≡ row-of (now (now (self .entry) .rows .items)) number ⌝ }
     {
@@ -31,7 +31,7 @@ impl<'a, K: LabelKind> CommitGraph<'a, K> {
     }
 
     // The entries of the table of parents that begin at `from`, `size` of them.
-    fn listed(&self, from: usize, size: usize) -> &[u32]
+    pub(crate) fn listed(&self, from: usize, size: usize) -> &[u32]
         requires { ⌜ from + size ≤ length (now (now self .parents .items)) ⌝ }
         ensures { λ r. ⌜ now r ≡ between from (from + size) (now (now (self .entry) .parents .items)) ⌝ }
     {
@@ -62,8 +62,7 @@ impl<'a, K: LabelKind> CommitGraph<'a, K> {
         if number as usize >= self.held() {
             return None;
         }
-        let row = self.row(number as usize);
-        Some(self.listed(row.from as usize, row.size as usize))
+        Some(self.parents_at(number as usize))
     }
 
     // The commit's label.
@@ -73,6 +72,6 @@ impl<'a, K: LabelKind> CommitGraph<'a, K> {
         if number as usize >= self.held() {
             return None;
         }
-        Some(self.labels.at(number as usize))
+        Some(self.label_at(number as usize))
     }
 }

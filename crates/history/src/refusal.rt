@@ -17,6 +17,12 @@ pub enum Refusal {
     CapacityPassed,
     // the table of parents has no room for the parents
     ParentCapacityPassed,
+    // the marks or the queue are too short
+    BufferTooShort,
+    // the list for the results is too short: the length needed
+    ResultTooShort(usize),
+    // a named commit is not held
+    CommitNotHeld,
 }
 
 impl Refusal {
@@ -31,21 +37,28 @@ impl Refusal {
             Refusal::IdHeld => 4,
             Refusal::CapacityPassed => 5,
             Refusal::ParentCapacityPassed => 6,
+            Refusal::BufferTooShort => 7,
+            Refusal::ResultTooShort(_) => 8,
+            Refusal::CommitNotHeld => 9,
         }
     }
 }
 
 pub impl fmt::Display for Refusal as RefusalDisplay {
     fn fmt<W: fmt::Write>(&self, f: &mut fmt::Formatter<W>) -> fmt::Result {
-        f.write_str(
-            match *self {
-                Refusal::DateTooLate => "the date is over 17179869183",
-                Refusal::TooManyParents => "there are more than 64 parents",
-                Refusal::ParentNotHeld => "a parent is not held",
-                Refusal::IdHeld => "the id is held already",
-                Refusal::CapacityPassed => "there is no room for one commit more",
-                Refusal::ParentCapacityPassed => "there is no room for the parents",
-            },
-        )
+        let words = match *self {
+            Refusal::DateTooLate => "the date is over 17179869183",
+            Refusal::TooManyParents => "there are more than 64 parents",
+            Refusal::ParentNotHeld => "a parent is not held",
+            Refusal::IdHeld => "the id is held already",
+            Refusal::CapacityPassed => "there is no room for one commit more",
+            Refusal::ParentCapacityPassed => "there is no room for the parents",
+            Refusal::BufferTooShort => "the marks or the queue are too short",
+            Refusal::ResultTooShort(needed) => {
+                return write!(f, "the list for the results is too short, {needed} needed");
+            }
+            Refusal::CommitNotHeld => "a named commit is not held",
+        };
+        f.write_str(words)
     }
 }

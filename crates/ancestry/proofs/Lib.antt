@@ -1,0 +1,11 @@
+pub mod Basing
+pub mod Bits
+pub mod Counts
+pub mod Courses
+pub mod Filling
+pub mod Laying
+pub mod Lending
+pub mod Listings
+pub mod Sums
+pub mod Tallies
+pub mod Tidying

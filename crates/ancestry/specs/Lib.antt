@@ -1,0 +1,5 @@
+pub mod Ancestry
+pub mod Paints
+pub mod Painting
+pub mod Refusing
+pub mod Settling

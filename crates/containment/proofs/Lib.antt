@@ -1,0 +1,9 @@
+pub mod Answering
+pub mod Covers
+pub mod Counts
+pub mod Parents
+pub mod Reach
+pub mod Settles
+pub mod Spreads
+pub mod Tops
+pub mod Walks

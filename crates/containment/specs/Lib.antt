@@ -1,0 +1,4 @@
+pub mod Trails
+pub mod Refusing
+pub mod Visits
+pub mod Settling

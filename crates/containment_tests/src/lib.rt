@@ -1,0 +1,5 @@
+// Questions of containment over small histories, with the answers worked out by hand.
+#[cfg(test)]
+mod histories;
+#[cfg(test)]
+mod tests;

@@ -1,0 +1,30 @@
+// The requests of the program, read from lines.
+mod base_kind;
+mod buffer;
+mod hex;
+mod kind;
+mod lengths;
+mod limits;
+mod line;
+mod numbers;
+mod options;
+mod parse_error;
+mod request;
+mod words;
+
+pub use base_kind::BaseKind;
+pub use hex::HexId;
+pub use hex::HexIdDisplay;
+pub use kind::Kind;
+pub use kind::KindDisplay;
+pub use lengths::Lengths;
+pub use limits::LONGEST_LINE;
+pub use line::parse;
+pub use parse_error::ParseError;
+pub use parse_error::ParseErrorDisplay;
+pub use parse_error::Part;
+pub use request::Addition;
+pub use request::Containment;
+pub use request::Opening;
+pub use request::Request;
+pub use request::TwoCommits;
