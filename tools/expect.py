@@ -12,7 +12,7 @@ WORDS = {
     5: "there is no room for one commit more",
     6: "there is no room for the parents",
     7: "the marks or the queue are too short",
-    8: "the list for the results is too short, %d needed",
+    8: "the list or buffer for the results is too short, %d needed",
     9: "a named commit is not held",
 }
 
@@ -287,8 +287,13 @@ def answer(state, words):
         b = decimal(words, 2, "the second commit's number", 2**32 - 1)
         names = ["marks", "queue"] + (["results"] if words[0] == "merge-bases" else [])
         lengths = options(words, 3, names)
+    elif words[0] == "write":
+        if len(words) < 2:
+            raise Bad("the path is missing")
+        room = decimal(words, 2, "the length of the buffer", 1000000) if len(words) > 2 else None
+        done(words, 3)
     else:
-        raise Bad("word 1 is not open, add, find, show, contains, ahead-behind or merge-bases")
+        raise Bad("word 1 is not open, add, find, show, contains, ahead-behind, merge-bases or write")
     h = state["history"]
     if h is None:
         raise Bad("no history is open")
@@ -306,6 +311,14 @@ def answer(state, words):
         return h.ahead_behind(a, b, lengths)
     if words[0] == "merge-bases":
         return h.merge_bases(a, b, lengths)
+    if words[0] == "write":
+        edges = sum(len(c["parents"]) - 1 for c in h.commits if len(c["parents"]) > 2)
+        length = (1092 if edges else 1080) + 56 * len(h.commits) + 4 * edges
+        if room is not None and room < length:
+            return refused(8, length)
+        if words[1] != "/dev/null":
+            raise Bad("the file cannot be written")
+        return "wrote %d" % length
     if n >= len(h.commits):
         return "none"
     c = h.commits[n]

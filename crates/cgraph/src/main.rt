@@ -1,6 +1,7 @@
 // Serves a commit history: requests on standard input, one a line, and an answer to each on standard output.
 mod ask;
 mod buffers;
+mod files;
 mod input;
 mod open;
 mod serve;

@@ -16,7 +16,7 @@ use labels::LabelKind;
 
 impl<'a, K: LabelKind> CommitGraph<'a, K> {
     // How many commits have an id before this one, found by halving.
-    pub(crate) fn place(&self, id: ObjectId) -> usize
+    pub fn place(&self, id: ObjectId) -> usize
         ensures within { λ r. ⌜ r ≤ now (self .entry) .count ⌝ }
         ensures splits { λ r. ⌜ (Rising (now (now (self .entry) .rows .items)) (now (now (self .entry) .order .items)) (now (self .entry) .count) → Splits (now (now (self .entry) .rows .items)) (now (now (self .entry) .order .items)) (now (self .entry) .count) (id .bytes) r r) ⌝ }
     {

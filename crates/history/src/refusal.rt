@@ -1,6 +1,7 @@
 // Why a call is refused.
 ghost use mathlib.Core.Path.{_≡_};
-ghost use Rattle.history.specs.Refusals.{refusal-number};
+ghost use Rattle.history.specs.Refusals.{refusal-number, refusal-values};
+ghost use Rattle.std.specs.Vec.{listOf};
 use std::fmt;
 
 #[derive(Clone, Copy)]
@@ -44,6 +45,25 @@ impl Refusal {
     }
 }
 
+impl Refusal {
+    // The length that would have been enough, where the refusal carries one.
+    pub fn needed(self) -> Option<usize>
+        ensures { λ r. ⌜ listOf r ≡ refusal-values self ⌝ }
+    {
+        match self {
+            Refusal::ResultTooShort(needed) => Some(needed),
+            Refusal::DateTooLate
+            | Refusal::TooManyParents
+            | Refusal::ParentNotHeld
+            | Refusal::IdHeld
+            | Refusal::CapacityPassed
+            | Refusal::ParentCapacityPassed
+            | Refusal::BufferTooShort
+            | Refusal::CommitNotHeld => None,
+        }
+    }
+}
+
 pub impl fmt::Display for Refusal as RefusalDisplay {
     fn fmt<W: fmt::Write>(&self, f: &mut fmt::Formatter<W>) -> fmt::Result {
         let words = match *self {
@@ -55,7 +75,10 @@ pub impl fmt::Display for Refusal as RefusalDisplay {
             Refusal::ParentCapacityPassed => "there is no room for the parents",
             Refusal::BufferTooShort => "the marks or the queue are too short",
             Refusal::ResultTooShort(needed) => {
-                return write!(f, "the list for the results is too short, {needed} needed");
+                return write!(
+                    f,
+                    "the list or buffer for the results is too short, {needed} needed"
+                );
             }
             Refusal::CommitNotHeld => "a named commit is not held",
         };

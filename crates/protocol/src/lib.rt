@@ -28,3 +28,4 @@ pub use request::Containment;
 pub use request::Opening;
 pub use request::Request;
 pub use request::TwoCommits;
+pub use request::Writing;

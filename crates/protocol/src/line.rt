@@ -6,6 +6,7 @@ use crate::request::Containment;
 use crate::request::Opening;
 use crate::request::Request;
 use crate::request::TwoCommits;
+use crate::request::Writing;
 use crate::words::Words;
 use std::alloc::Global;
 
@@ -67,6 +68,12 @@ fn parse_two_commits(mut words: Words<'_>, has_results: bool) -> Result<TwoCommi
     Ok(TwoCommits { a, b, lengths })
 }
 
+fn parse_write(mut words: Words<'_>, heap: Global) -> Result<Request, ParseError> {
+    let path = words.path(heap)?;
+    let length = words.last_length()?;
+    Ok(Request::Write(Writing { path, length }))
+}
+
 // The request that a line makes.
 pub fn parse(heap: Global, line: &str) -> Result<Request, ParseError> {
     let mut rest = line.split_whitespace();
@@ -85,6 +92,7 @@ pub fn parse(heap: Global, line: &str) -> Result<Request, ParseError> {
         "contains" => parse_contains(words, heap),
         "ahead-behind" => Ok(Request::AheadBehind(parse_two_commits(words, false)?)),
         "merge-bases" => Ok(Request::MergeBases(parse_two_commits(words, true)?)),
+        "write" => parse_write(words, heap),
         _ => Err(ParseError::UnknownRequest),
     }
 }

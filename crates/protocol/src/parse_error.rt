@@ -24,6 +24,8 @@ pub enum Part {
     Results,
     Marks,
     Queue,
+    Path,
+    File,
 }
 
 impl Part {
@@ -46,6 +48,8 @@ impl Part {
             Part::Results => "the length of the results",
             Part::Marks => "the length of the marks",
             Part::Queue => "the length of the queue",
+            Part::Path => "the path",
+            Part::File => "the length of the buffer",
         }
     }
 
@@ -56,6 +60,8 @@ impl Part {
                 LONGEST_TABLE as u64,
             ),
             Part::Results | Part::Marks | Part::Queue => Form::Number(LONGEST_TABLE as u64),
+            Part::Path => Form::Path,
+            Part::File => Form::Number(LONGEST_TABLE as u64),
             Part::Id | Part::Tree => Form::Id,
             Part::Date => Form::Number(u64::MAX),
             Part::Parent | Part::Number | Part::Target | Part::Tip | Part::First | Part::Second => {
@@ -70,6 +76,7 @@ impl Part {
 enum Form {
     Kind,
     Id,
+    Path,
     // up to this
     Number(u64),
 }
@@ -81,6 +88,7 @@ impl fmt::Display for Form as FormDisplay {
                 "blank, level, byte-level, corrected-date, interval or two of these joined by +",
             ),
             Form::Id => f.write_str("40 hex digits"),
+            Form::Path => f.write_str("a path"),
             Form::Number(most) => write!(f, "a decimal number up to {most}"),
         }
     }
@@ -110,7 +118,7 @@ pub impl fmt::Display for ParseError as ParseErrorDisplay {
             ParseError::NotText => f.write_str("the line is not UTF-8 text"),
             ParseError::TooLong => write!(f, "the line is longer than {LONGEST_LINE} bytes"),
             ParseError::UnknownRequest => f.write_str(
-                "word 1 is not open, add, find, show, contains, ahead-behind or merge-bases",
+                "word 1 is not open, add, find, show, contains, ahead-behind, merge-bases or write",
             ),
             ParseError::Missing(part) => {
                 let name = part.name();

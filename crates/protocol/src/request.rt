@@ -55,6 +55,13 @@ pub struct TwoCommits {
     pub lengths: Lengths,
 }
 
+// Where a file is to be written, and the length of the buffer for it where the request sets that.
+#[derive(Drop)]
+pub struct Writing {
+    pub path: String,
+    pub length: Option<usize>,
+}
+
 #[derive(Drop)]
 pub enum Request {
     // a blank line or a comment
@@ -66,4 +73,5 @@ pub enum Request {
     Contains(Containment),
     AheadBehind(TwoCommits),
     MergeBases(TwoCommits),
+    Write(Writing),
 }

@@ -59,6 +59,25 @@ impl<'a> Words<'a> {
         self.read(part, short_number(word))
     }
 
+    pub fn path(&mut self, heap: Global) -> Result<String, ParseError> {
+        let word = self.next(Part::Path)?;
+        match String::from_str(heap, word) {
+            Ok(path) => Ok(path),
+            Err(_) => Err(ParseError::NoMemory),
+        }
+    }
+
+    // The length that the one word left sets, if there is one.
+    pub fn last_length(&mut self) -> Result<Option<usize>, ParseError> {
+        self.taken = self.taken.saturating_add(1);
+        let Some(word) = self.rest.next() else {
+            return Ok(None);
+        };
+        let length = self.read(Part::File, table_length(word))?;
+        self.end()?;
+        Ok(Some(length))
+    }
+
     // The parents, which are all the words that are left.
     pub fn parents(self, heap: Global) -> Result<Vec<u32>, ParseError> {
         let mut place = self.taken;

@@ -1,0 +1,9 @@
+pub mod DataRows
+pub mod EdgeWords
+pub mod FanOuts
+pub mod FileParts
+pub mod Filing
+pub mod Fronts
+pub mod Placed
+pub mod Replies
+pub mod Sources

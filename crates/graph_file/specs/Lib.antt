@@ -1,0 +1,5 @@
+pub mod Words
+pub mod Layout
+pub mod Encoding
+pub mod Writing
+pub mod Placing
