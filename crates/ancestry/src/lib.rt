@@ -1,4 +1,6 @@
 // What commits have behind them: how far two lines have parted, and where a merge of them starts.
+#![tactic(auto)]
+
 mod bases;
 mod front;
 mod goal;

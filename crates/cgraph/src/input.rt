@@ -35,13 +35,13 @@ fn through_break(held: &[u8]) -> usize
 }
 
 impl Requests {
-    pub fn new(rt: &HostRuntime) -> Requests {
-        Requests {
-            reader: BufReader::new(rt.stdin()),
+    pub fn new(rt: &HostRuntime) -> io::Result<Requests> {
+        Ok(Requests {
+            reader: BufReader::new(rt.alloc(), rt.stdin())?,
             line: Vec::new(rt.alloc()),
             is_too_long: false,
             heap: rt.alloc(),
-        }
+        })
     }
 
     // Takes what the reader holds of the line, and answers whether the line or the input has ended.

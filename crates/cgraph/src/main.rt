@@ -1,4 +1,6 @@
 // Serves a commit history: requests on standard input, one a line, and an answer to each on standard output.
+#![tactic(auto)]
+
 mod ask;
 mod buffers;
 mod files;
@@ -13,7 +15,7 @@ use serve::wait;
 use std::io;
 
 fn main(rt: HostRuntime) -> io::Result<()> {
-    let mut requests = Requests::new(&rt);
+    let mut requests = Requests::new(&rt)?;
     let mut next = wait(&rt, &mut requests)?;
     for _ in 0..u64::MAX {
         match next {

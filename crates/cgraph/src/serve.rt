@@ -1,6 +1,6 @@
 // Serving requests.
 use crate::ask::{ask_ahead_behind, ask_contains, ask_merge_bases, tell_refusal};
-use crate::files::{load_file, write_file};
+use crate::files::write_file;
 use crate::input::{Next, Requests};
 use crate::show::{CommitLine, ShowLabel};
 use history::{CommitGraph, ObjectId};
@@ -73,7 +73,6 @@ pub fn serve<K: ShowLabel>(
             Next::Request(Request::AheadBehind(question)) => ask_ahead_behind(rt, graph, question)?,
             Next::Request(Request::MergeBases(question)) => ask_merge_bases(rt, graph, question)?,
             Next::Request(Request::Write(writing)) => write_file(rt, graph, writing)?,
-            Next::Request(Request::Load(loading)) => load_file(rt, graph, loading)?,
         }
     }
     Ok(None)

@@ -4,6 +4,7 @@ use borrow.Rule.Slice.PartMut.{put_mid}
 use Rattle.std.proofs.lemmas.List.{get_or-take, length-take-le}
 use Rattle.frontier.specs.declared.elements.ByNumber.{ByNumber}
 use Rattle.frontier.proofs.Fronts.{front_after, rest_after}
+use Rattle.labels.specs.declared.kind.LabelKind.{Ghosts}
 use Rattle.history.specs.Counting.{Tally, Tells}
 use Rattle.history.proofs.Commits.{represented_length}
 use Rattle.history.specs.declared.graph.CommitGraph.{CommitGraph}
@@ -71,7 +72,7 @@ module _ (h : List Commit) (passes : ℕ → Bool) (target : ℕ) (tips results 
       }
 
 -- what is answered of the graph's commits and labels is answered of those that it represents
-module _ {K L : Type 0} (start : ℕ → ℕ → L) (grown : L → L → L) (allows : L → L → Bool) (d : L) (m : Model) (g : CommitGraph K L) (s : Represents start grown m g) where
+module _ {K L : Type 0} {kind : Ghosts K L} (start : ℕ → ℕ → L) (grown : L → L → L) (allows : L → L → Bool) (d : L) (m : Model) (g : CommitGraph K L kind) (s : Represents start grown m g) where
   pub represented_refusal : (o : Option Refusal) (held target : ℕ) (tips : List ℕ) (results marks queue : ℕ) → held ≡ g.count →
       o ≡ contains_refusal held target tips results marks queue → o ≡ contains_refusal (length m.commits) target tips results marks queue
   represented_refusal o held target tips results marks queue e w =
@@ -81,4 +82,4 @@ module _ {K L : Type 0} (start : ℕ → ℕ → L) (grown : L → L → L) (all
       Contained (history g) (opens allows d (labels g) target) target tips results results' marks marks' queue queue' visits →
       Contained m.commits (opens allows d (labels_of start grown m.commits) target) target tips results results' marks marks' queue queue' visits
   represented target tips {results} {results'} {marks} {marks'} {queue} {queue'} {visits} w =
-      subst₂ (λ h ls. Contained h (opens allows d ls target) target tips results results' marks marks' queue queue' visits) s.filled.commits s.filled.labels w
+      subst₂ (λ h ls. Contained h (opens allows d ls target) target tips results results' marks marks' queue queue' visits) s.commits s.labels w

@@ -3,6 +3,7 @@ use Rattle.std.proofs.Common.{◌≡◌, ℕ, zero, suc, ◌<◌, Bool, true, Li
 use Rattle.std.proofs.lemmas.Bool.{cases_lt}
 use Rattle.std.proofs.lemmas.List.{get_or-take, get_or_default, get_or_past}
 use Rattle.labels.specs.Laws.{Laws}
+use Rattle.labels.specs.declared.kind.LabelKind.{Ghosts}
 use Rattle.history.specs.declared.graph.CommitGraph.{CommitGraph}
 use Rattle.history.specs.Graph.{history, labels, Represents}
 use Rattle.history.specs.Model.{Model}
@@ -39,5 +40,5 @@ module _ {L : Type 0} (start : ℕ → ℕ → L) (grown : L → L → L) (allow
       (cases_lt a (length h))
 
   -- the labels that a graph holds are made
-  pub graph_covers : {K : Type 0} (m : Model) (g : CommitGraph K L) → Represents start grown m g → (d : L) → Covers allows d (history g) (labels g)
-  graph_covers m g s d = subst₂ (Covers allows d) (sym s.filled.commits) (sym s.filled.labels) (made_covers d m.commits s.filled.wellformed.falling)
+  pub graph_covers : {K : Type 0} {kind : Ghosts K L} (m : Model) (g : CommitGraph K L kind) → Represents start grown m g → (d : L) → Covers allows d (history g) (labels g)
+  graph_covers m g s d = subst₂ (Covers allows d) (sym s.commits) (sym s.labels) (made_covers d m.commits s.wellformed.falling)

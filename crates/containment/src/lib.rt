@@ -1,4 +1,6 @@
 // Which tips contain a commit.
+#![tactic(auto)]
+
 mod question;
 mod room;
 mod settle;

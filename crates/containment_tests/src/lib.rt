@@ -1,4 +1,6 @@
 // Questions of containment over small histories, with the answers worked out by hand.
+#![tactic(auto)]
+
 #[cfg(test)]
 mod histories;
 #[cfg(test)]

@@ -26,12 +26,13 @@ fn two_of_three<K: LabelKind>(rt: &impl Abort, labels: &mut [K::Label], visits: 
 // One question about the seven commits by level, with its result, its visits and the first four marks.
 fn by_level(
     rt: &impl Abort,
+    why: &str,
     target: u32,
     tip: u32,
     res: u8,
     visits: u32,
     trail: [u8; 4],
-) -> Result<(), Fail> {
+) {
     let mut results = [9; 1];
     let mut marks = [9; 4];
     let mut queue = [ByNumber { number: 9 }; 4];
@@ -43,21 +44,21 @@ fn by_level(
         &mut marks,
         &mut queue,
     );
-    assert_eq!(rt; outcome(reply), Ok(visits));
-    assert_eq!(rt; results, [res]);
-    assert_eq!(rt; marks, trail);
-    Ok(())
+    assert_eq!(rt; outcome(reply), Ok(visits), "{why}");
+    assert_eq!(rt; results, [res], "{why}");
+    assert_eq!(rt; marks, trail, "{why}");
 }
 
 // A refusal by number for buffers of these lengths, which keep what they hold.
 fn refused(
     rt: &impl Abort,
+    why: &str,
     target: u32,
     told: usize,
     marked: usize,
     queued: usize,
     number: u32,
-) -> Result<(), Fail> {
+) {
     let mut results = [9; 3];
     let mut marks = [9; 7];
     let mut queue = [ByNumber { number: 9 }; 7];
@@ -70,10 +71,9 @@ fn refused(
         &mut marks[0..marked],
         &mut queue[0..queued],
     );
-    assert_eq!(rt; outcome(reply), Err(number));
-    assert_eq!(rt; results, [9; 3]);
-    assert_eq!(rt; marks, [9; 7]);
-    Ok(())
+    assert_eq!(rt; outcome(reply), Err(number), "{why}");
+    assert_eq!(rt; results, [9; 3], "{why}");
+    assert_eq!(rt; marks, [9; 7], "{why}");
 }
 
 #[test]
@@ -87,10 +87,18 @@ fn each_kind_answers_the_same(rt: HostRuntime) {
 }
 
 #[test]
-fn one_tip(rt: HostRuntime) -> Result<(), Fail> {
-    by_level(&rt, 3, 3, 1, 1, [0, 0, 0, 1]).note("a commit contains itself")?;
-    by_level(&rt, 3, 0, 0, 0, [0, 0, 0, 0]).note("the tip is below the target")?;
-    by_level(&rt, 1, 3, 1, 2, [0, 1, 0, 1]).note("one parent is ruled out by its level")
+fn one_tip(rt: HostRuntime) {
+    by_level(&rt, "a commit contains itself", 3, 3, 1, 1, [0, 0, 0, 1]);
+    by_level(&rt, "the tip is below the target", 3, 0, 0, 0, [0, 0, 0, 0]);
+    by_level(
+        &rt,
+        "one parent is ruled out by its level",
+        1,
+        3,
+        1,
+        2,
+        [0, 1, 0, 1],
+    );
 }
 
 #[test]
@@ -111,11 +119,11 @@ fn no_tips(rt: HostRuntime) {
 }
 
 #[test]
-fn refusals_in_order(rt: HostRuntime) -> Result<(), Fail> {
-    refused(&rt, 7, 2, 0, 0, 9).note("the target is not held")?;
-    refused(&rt, 1, 2, 0, 0, 8).note("the list for the results is too short")?;
-    refused(&rt, 1, 3, 5, 6, 7).note("the marks are too short")?;
-    refused(&rt, 1, 3, 6, 5, 7).note("the queue is too short")
+fn refusals_in_order(rt: HostRuntime) {
+    refused(&rt, "the target is not held", 7, 2, 0, 0, 9);
+    refused(&rt, "the list for the results is too short", 1, 2, 0, 0, 8);
+    refused(&rt, "the marks are too short", 1, 3, 5, 6, 7);
+    refused(&rt, "the queue is too short", 1, 3, 6, 5, 7);
 }
 
 #[test]

@@ -1,11 +1,10 @@
 -- The words of EDGE. Assumes nothing.
 use Rattle.std.proofs.Common.{◌≡◌, ℕ, zero, suc, ◌+◌, ◌-◌, ◌*◌, ◌<◌, ◌≤◌, cond, ltb, List, [], ◌∷◌, ◌++◌, length, get_or, take, drop, sym, refl, ap, ◌∙◌, subst, ap₂, ⊎_elim, arith}
 use Rattle.std.specs.List.{flat_map}
-use Rattle.std.proofs.lemmas.List.{length-map, length-append, append_assoc, take_more, take_all, take_rest, flat_map_more, length-drop, get_or-drop}
+use Rattle.std.proofs.lemmas.List.{length-append, append_assoc, take_more, take_all, take_rest, flat_map_more, length-drop, get_or-drop}
 use Rattle.std.proofs.lemmas.Bool.{cases_lt, lt-ltb, le-ltb, cond-true, cond-false}
 use Rattle.history.specs.History.{Commit, parents_of}
-use Rattle.graph_file.specs.Encoding.{position, positions, closed, edges_from}
-use Rattle.graph_file.specs.ParentWords.{extra, closed_words, edge_words}
+use Rattle.graph_file.specs.Encoding.{position, extra, closed, edges_from}
 use Rattle.graph_file.specs.Layout.{edge_bytes}
 use Rattle.graph_file.specs.Placing.{placed, extras}
 use Rattle.graph_file.specs.Words.{word}
@@ -13,22 +12,6 @@ use Rattle.graph_file.proofs.Placed.{placed_next, length_joined}
 
 pub extra_many : (ps : List ℕ) → 2 < length ps → extra ps ≡ length ps - 1
 extra_many ps lt = cond-true _ _ _ (lt-ltb 2 (length ps) lt)
-
-length_closed_words : (ps : List ℕ) → length (closed_words ps) ≡ length ps
-length_closed_words [] = refl
-length_closed_words (p ∷ []) = refl
-length_closed_words (p ∷ (q ∷ ps)) = ap suc (length_closed_words (q ∷ ps))
-
--- how many words of EDGE there are
-pub length_edges : (ps : List ℕ) → length (edge_words ps) ≡ extra ps
-unfolding length_closed_words
-length_edges [] = refl
-length_edges (p ∷ []) = refl
-length_edges (p ∷ (q ∷ [])) = refl
-length_edges (p ∷ (q ∷ (r ∷ ps))) =
-    let qs = q ∷ (r ∷ ps) in
-    ap length (cond-true (ltb 1 (length qs)) (closed_words qs) [] (lt-ltb 1 (length qs) (omega arith)))
-    ∙ length_closed_words qs ∙ (let z : length qs ≡ length (p ∷ qs) - 1 = omega arith in z) ∙ sym (extra_many (p ∷ qs) (omega arith))
 
 -- the parents from the second on, as a slice has them
 abbrev pub rest_of : List ℕ → List ℕ
@@ -49,12 +32,10 @@ ltb_suc i j n e =
     (cases_lt i n)
 
 module _ (order : List ℕ) where
-  pub extra_positions : (ps : List ℕ) → extra (positions order ps) ≡ extra ps
-  extra_positions ps = ap (λ k. cond (ltb 2 k) (k - 1) 0) (length-map ps (position order))
-
   pub length_closed : (ps : List ℕ) → length (closed order ps) ≡ length ps
-  unfolding length_closed_words
-  length_closed ps = length_closed_words (positions order ps) ∙ length-map ps (position order)
+  length_closed [] = refl
+  length_closed (p ∷ []) = refl
+  length_closed (p ∷ (q ∷ ps)) = ap suc (length_closed (q ∷ ps))
 
   -- a word is a position, and the last is marked
   pub closed_at : (ps : List ℕ) (k : ℕ) → k < length ps → get_or (closed order ps) k 0 ≡ cond (ltb (k + 1) (length ps)) 0 2147483648 + position order (get_or ps k 0)
@@ -69,19 +50,27 @@ module _ (order : List ℕ) where
 
   pub edges_many : (ps : List ℕ) → 2 < length ps → edges_from order ps ≡ closed order (rest_of ps)
   edges_many [] lt = absurd (omega arith)
-  edges_many (p ∷ ps) lt =
-      cond-true _ _ [] (lt-ltb 1 (length (positions order ps)) (omega (arith, length-map ps (position order)))) ∙ ap (closed order) (sym (take_rest (p ∷ ps) 1))
+  edges_many (p ∷ ps) lt = cond-true _ _ [] (lt-ltb 1 (length ps) (omega arith)) ∙ ap (closed order) (sym (take_rest (p ∷ ps) 1))
 
   pub edges_none : (ps : List ℕ) → length ps ≤ 2 → edges_from order ps ≡ []
   edges_none [] le = refl
-  edges_none (p ∷ ps) le = cond-false _ (closed order ps) _ (le-ltb 1 (length (positions order ps)) (omega (arith, length-map ps (position order))))
+  edges_none (p ∷ ps) le = cond-false _ (closed order ps) _ (le-ltb 1 (length ps) (omega arith))
+
+  length_edges : (ps : List ℕ) → length (edges_from order ps) ≡ extra ps
+  length_edges [] = refl
+  length_edges (p ∷ []) = refl
+  length_edges (p ∷ (q ∷ [])) = refl
+  length_edges (p ∷ (q ∷ (r ∷ ps))) =
+      let ms = p ∷ (q ∷ (r ∷ ps)) in
+      ap length (edges_many ms (omega arith)) ∙ length_closed (rest_of ms) ∙ rest_length ms ∙ sym (extra_many ms (omega arith))
 
   module _ (h : List Commit) where
     pub length_edge_words : (ns : List ℕ) → length (flat_map (λ n. edges_from order (parents_of h n)) ns) ≡ extras h ns
+    unfolding length_edges
     length_edge_words [] = refl
     length_edge_words (n ∷ ns) =
         length-append (edges_from order (parents_of h n)) (flat_map (λ m. edges_from order (parents_of h m)) ns)
-        ∙ ap₂ (λ x y. x + y) (length_edges (positions order (parents_of h n)) ∙ extra_positions (parents_of h n)) (length_edge_words ns)
+        ∙ ap₂ (λ x y. x + y) (length_edges (parents_of h n)) (length_edge_words ns)
 
 edge_bytes_append : (xs ys : List ℕ) → edge_bytes (xs ++ ys) ≡ edge_bytes xs ++ edge_bytes ys
 edge_bytes_append [] ys = refl

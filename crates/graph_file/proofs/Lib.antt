@@ -1,11 +1,9 @@
 pub mod DataRows
 pub mod EdgeWords
 pub mod FanOuts
-pub mod FileOrders
 pub mod FileParts
 pub mod Filing
 pub mod Fronts
-pub mod ParentLists
 pub mod Placed
 pub mod Replies
 pub mod Sources

@@ -41,6 +41,9 @@ module _ {X : Type 0} (f : X → List ℕ) where
       length-append (f x) (flat_map f xs) ∙ omega (arith, each 0 (omega arith), length_joined w d xs (λ k lt. each (suc k) (omega arith)), mul-suc w (length xs))
 
   module _ (d e : List ℕ) (at w i : ℕ) (xs : List X) (z : X) (each : (k : ℕ) → k < length xs → length (f (get_or xs k z)) ≡ w) where
+    pub part_begins : d ≡ placed d at (flat_map f (take 0 xs))
+    part_begins = placed_none d at
+
     pub part_grows : (e' : List ℕ) (here : ℕ) (bytes : List ℕ) → i < length xs → e ≡ placed d at (flat_map f (take i xs)) → e' ≡ placed e here bytes → bytes ≡ f (get_or xs i z) → here ≡ at + w * i →
         at ≤ length d → e' ≡ placed d at (flat_map f (take (i + 1) xs))
     part_grows e' here bytes lt p q is place le =

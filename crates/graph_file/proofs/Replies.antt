@@ -2,6 +2,7 @@
 use Rattle.std.proofs.Common.{◌≡◌, ℕ, ◌<◌, ◌≤◌, true, false, ltb, List, length, get_or, Ok, Err, Result, sym, refl, ap, ◌∙◌, subst, ap₂, ⊎_elim, arith}
 use Rattle.std.proofs.lemmas.List.{get_or-take}
 use Rattle.std.proofs.lemmas.Bool.{cases_Bool, ltb-true, ltb-false, lt-ltb, le-ltb, cond-true, cond-false}
+use Rattle.labels.specs.declared.kind.LabelKind.{Ghosts}
 use Rattle.history.specs.declared.graph.CommitGraph.{CommitGraph}
 use Rattle.history.specs.declared.refusal.Refusal.{Refusal}
 use Rattle.history.specs.declared.refusal.Refusal.TheVariants.{ResultTooShort}
@@ -17,14 +18,13 @@ use Rattle.graph_file.specs.Placing.{placed, extras, listed, Filed, Sized, file_
 use Rattle.graph_file.specs.Writing.{Written, written, written_reply}
 use Rattle.graph_file.proofs.DataRows.{length_rows, rows_wide}
 use Rattle.graph_file.proofs.EdgeWords.{length_edge_words}
-use Rattle.graph_file.proofs.FileOrders.{order_unique}
 use Rattle.graph_file.proofs.Filing.{filed_length, ids_length, ids_wide}
 use Rattle.graph_file.proofs.Fronts.{file_length_is}
 use Rattle.graph_file.proofs.Placed.{placed_first}
 use Rattle.graph_file.proofs.Sources.{length_listed, number_listed}
 use Rattle.graph_file.proofs.FileParts.{file_bytes_length}
 
-module _ {K L : Type 0} (g : CommitGraph K L) (h : List Commit) (order : List ℕ) (s : Filed g h order) (edges : ℕ) (words : edges ≡ extras (history g) (listed g)) where
+module _ {K L : Type 0} {kind : Ghosts K L} (g : CommitGraph K L kind) (h : List Commit) (order : List ℕ) (s : Filed g h order) (edges : ℕ) (words : edges ≡ extras (history g) (listed g)) where
   pub file_sized : Sized (layout_of h order) g.count edges
   file_sized =
       record {
@@ -34,7 +34,7 @@ module _ {K L : Type 0} (g : CommitGraph K L) (h : List Commit) (order : List �
       }
 
 -- the tables of a represented history hold it in the file's order
-module _ {K L : Type 0} (start : ℕ → ℕ → L) (grown : L → L → L) (m : Model) (g : CommitGraph K L) (s : Represents start grown m g) where
+module _ {K L : Type 0} {kind : Ghosts K L} (start : ℕ → ℕ → L) (grown : L → L → L) (m : Model) (g : CommitGraph K L kind) (s : Represents start grown m g) where
   id_listed : (i : ℕ) → i < g.count → (commit_of m.commits (get_or (listed g) i 0)).id ≡ (row_of g.rows.items.now (get_or g.order.items.now i 0)).id.bytes
   id_listed i lt =
       ap (λ n. (commit_of m.commits n).id) (get_or-take g.count g.order.items.now i 0 lt)
@@ -60,12 +60,12 @@ module _ {K L : Type 0} (start : ℕ → ℕ → L) (grown : L → L → L) (m :
   pub filed : Filed g m.commits (listed g)
   filed =
       record {
-        commits = s.filled.commits;
+        commits = s.commits;
         sorted = refl;
-        levels = s.filled.levels;
+        levels = s.levels;
         rising = s.rising;
         ordered = file_order;
-        wide = s.filled.wellformed.wide;
+        wide = s.wellformed.wide;
       }
 
 -- the reply says whether the file fits
@@ -90,7 +90,7 @@ stands bytes buffer lt = sym (cond-true _ _ _ (lt-ltb (length buffer) (length by
 filled : (bytes buffer buffer' : List ℕ) → length bytes ≤ length buffer → buffer' ≡ placed buffer 0 bytes → buffer' ≡ written bytes buffer
 filled bytes buffer buffer' le p = p ∙ placed_first buffer bytes ∙ sym (cond-false _ _ _ (le-ltb (length buffer) (length bytes) le))
 
-module _ {K L : Type 0} (start : ℕ → ℕ → L) (grown : L → L → L) (m : Model) (g : CommitGraph K L) (s : Represents start grown m g) (buffer : List ℕ) (edges needed : ℕ)
+module _ {K L : Type 0} {kind : Ghosts K L} (start : ℕ → ℕ → L) (grown : L → L → L) (m : Model) (g : CommitGraph K L kind) (s : Represents start grown m g) (buffer : List ℕ) (edges needed : ℕ)
     (words : edges ≡ extras (history g) (listed g)) (size : needed ≡ file_size g.count edges) (r : Result ℕ Refusal) (reply : r ≡ written_reply (length buffer) needed) where
   long : needed ≡ length (file_bytes (layout_of m.commits (listed g)))
   long =
@@ -105,7 +105,6 @@ module _ {K L : Type 0} (start : ℕ → ℕ → L) (grown : L → L → L) (m :
       record {
         order = listed g;
         ordered = file_order start grown m g s;
-        sole = λ order o. order_unique m.commits order (listed g) o (file_order start grown m g s);
         reply = reply ∙ ap (written_reply (length buffer)) long;
         bytes = p;
       }

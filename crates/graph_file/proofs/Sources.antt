@@ -3,12 +3,13 @@ use Rattle.std.proofs.Common.{◌≡◌, ℕ, ◌+◌, ◌-◌, ◌<◌, ◌≤�
 use Rattle.std.proofs.lemmas.List.Edits.{length-between}
 use Rattle.std.proofs.lemmas.List.{get_or-take, length-take-le, take_more, take-append-drop}
 use Rattle.std.proofs.lemmas.Bool.{cond_both}
+use Rattle.labels.specs.declared.kind.LabelKind.{Ghosts}
 use Rattle.history.specs.declared.graph.CommitGraph.{CommitGraph}
 use Rattle.history.specs.Graph.{history}
 use Rattle.history.specs.History.{Commit, parents_of}
 use Rattle.history.specs.Tables.{row_of}
 use Rattle.history.proofs.Commits.{commit_at, graph_falling}
-use Rattle.graph_file.specs.ParentWords.{extra}
+use Rattle.graph_file.specs.Encoding.{extra}
 use Rattle.graph_file.specs.Placing.{extras, listed}
 
 pub extra_bound : (ps : List ℕ) → extra ps ≤ length ps
@@ -29,7 +30,7 @@ module _ (h : List Commit) where
   pub extras_room : (xs : List ℕ) (i : ℕ) → extras h (take i xs) ≤ extras h xs
   extras_room xs i = omega (arith, ap (extras h) (take-append-drop i xs), extras_append (take i xs) (drop i xs))
 
-module _ {K L : Type 0} (g : CommitGraph K L) where
+module _ {K L : Type 0} {kind : Ghosts K L} (g : CommitGraph K L kind) where
   pub length_listed : length (listed g) ≡ g.count
   length_listed = length-take-le g.count g.order.items.now g.listed
 

@@ -1,11 +1,10 @@
 -- The file of a history. Assumes nothing.
-use Rattle.std.specs.Prelude.{◌≡◌, ℕ, suc, ◌+◌, ◌*◌, ◌/◌, ◌%◌, ◌<◌, true, cond, List, [], ◌∷◌, ◌++◌, map, length, ◌==◌, slice_index}
+use Rattle.std.specs.Prelude.{◌≡◌, ℕ, suc, ◌+◌, ◌-◌, ◌*◌, ◌/◌, ◌%◌, ◌<◌, true, cond, List, [], ◌∷◌, ◌++◌, map, length, ◌==◌, nat_lt, slice_index}
 use Rattle.std.specs.List.{flat_map}
 use Rattle.history.specs.Generations.{levels_of}
 use Rattle.history.specs.History.{Commit, commit_of, parents_of}
 use Rattle.history.specs.Ids.{precedes}
 use Rattle.graph_file.specs.Layout.{Row, Layout}
-use Rattle.graph_file.specs.ParentWords.{extra, closed_words, edge_words, first_parent_word, second_parent_word}
 
 -- the file's order: each commit's number once, in rising order of their ids
 pub record FileOrder (h : List Commit) (order : List ℕ) : Type 0 where
@@ -19,22 +18,30 @@ abbrev pub position : List ℕ → ℕ → ℕ
 position [] n = 0
 position (m ∷ order) n = cond (m == n) 0 (suc (position order n))
 
--- the file positions of commits
-abbrev pub positions : List ℕ → List ℕ → List ℕ
-positions order ns = map (position order) ns
+-- how many words of EDGE a list of parents takes: from the second on, where there are more than two
+abbrev pub extra : List ℕ → ℕ
+extra ps = cond (nat_lt 2 (length ps)) (length ps - 1) 0
 
--- the parent words, and the words of EDGE, of a commit with these parents
+-- the second to last parents, the last with its highest bit set
 abbrev pub closed : List ℕ → List ℕ → List ℕ
-closed order ps = closed_words (positions order ps)
+closed order [] = []
+closed order (p ∷ []) = (2147483648 + position order p) ∷ []
+closed order (p ∷ (q ∷ ps)) = position order p ∷ closed order (q ∷ ps)
 
 abbrev pub edges_from : List ℕ → List ℕ → List ℕ
-edges_from order ps = edge_words (positions order ps)
+edges_from order [] = []
+edges_from order (p ∷ ps) = cond (nat_lt 1 (length ps)) (closed order ps) []
 
+-- the two parent words: 0x70000000 for none; with more than two parents the second is 0x80000000 plus an index into EDGE
 abbrev pub first_word : List ℕ → List ℕ → ℕ
-first_word order ps = first_parent_word (positions order ps)
+first_word order [] = 1879048192
+first_word order (p ∷ ps) = position order p
 
 abbrev pub second_word : List ℕ → ℕ → List ℕ → ℕ
-second_word order start ps = second_parent_word start (positions order ps)
+second_word order start [] = 1879048192
+second_word order start (p ∷ []) = 1879048192
+second_word order start (p ∷ (q ∷ [])) = position order q
+second_word order start (p ∷ (q ∷ (r ∷ ps))) = 2147483648 + start
 
 module _ (h : List Commit) (order : List ℕ) where
   -- the row of commit n, whose extra edges begin at `start`

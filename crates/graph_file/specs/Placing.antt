@@ -1,13 +1,13 @@
 -- What the steps of writing say: bytes put into a buffer, and the tables that a file is written from. Assumes nothing.
 use Rattle.std.specs.Prelude.{◌≡◌, ℕ, ◌+◌, ◌*◌, ◌<◌, ◌≤◌, cond, List, [], ◌∷◌, map, length, take, nat_lt, slice_index, slice_index_or}
 use Rattle.std.proofs.Math.Seq.{paste}
+use Rattle.labels.specs.declared.kind.LabelKind.{Ghosts}
 use Rattle.history.specs.declared.graph.CommitGraph.{CommitGraph}
 use Rattle.history.specs.Generations.{levels_of}
 use Rattle.history.specs.Graph.{history}
 use Rattle.history.specs.History.{Commit, commit_of, parents_of}
 use Rattle.history.specs.Tables.{Rising}
-use Rattle.graph_file.specs.Encoding.{FileOrder}
-use Rattle.graph_file.specs.ParentWords.{extra}
+use Rattle.graph_file.specs.Encoding.{FileOrder, extra}
 use Rattle.graph_file.specs.Layout.{Layout}
 
 -- the buffer with the bytes put over what stood from `at` on
@@ -47,7 +47,7 @@ pub record Sized (l : Layout) (commits edges : ℕ) : Type 0 where
   pub rows : length l.rows ≡ commits
   pub words : length l.edges ≡ edges
 
-module _ {K L : Type 0} (g : CommitGraph K L) where
+module _ {K L : Type 0} {kind : Ghosts K L} (g : CommitGraph K L kind) where
   -- the commits' numbers in rising order of their ids
   abbrev pub listed : List ℕ
   listed = take g.count g.order.items.now

@@ -13,10 +13,9 @@ written_reply room needed = cond (nat_lt room needed) (Err (ResultTooShort neede
 abbrev pub written : List ℕ → List ℕ → List ℕ
 written bytes buffer = cond (nat_lt (length buffer) (length bytes)) buffer (bytes ++ drop (length bytes) buffer)
 
--- the file of the history, in a buffer, as a reply; a history has one file order
+-- the file of the history, in a buffer, as a reply
 pub record Written (h : List Commit) (buffer buffer' : List ℕ) (r : Result ℕ Refusal) : Type 0 where
   pub order : List ℕ
   pub ordered : FileOrder h order
-  pub sole : (order' : List ℕ) → FileOrder h order' → order' ≡ order
   pub reply : r ≡ written_reply (length buffer) (length (file_bytes (layout_of h order)))
   pub bytes : buffer' ≡ written (file_bytes (layout_of h order)) buffer

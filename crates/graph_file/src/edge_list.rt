@@ -1,8 +1,7 @@
 // EDGE: the parents from the second on, of the commits with more than two.
 ghost use Rattle.std.specs.Prelude.{◌≡◌, ℕ, ◌+◌, ◌*◌, ◌<◌, ◌≤◌, List, length, slice_index};
 ghost use Rattle.std.specs.List.{flat_map};
-ghost use Rattle.graph_file.specs.Encoding.{closed, edges_from};
-ghost use Rattle.graph_file.specs.ParentWords.{extra};
+ghost use Rattle.graph_file.specs.Encoding.{extra, closed, edges_from};
 ghost use Rattle.graph_file.specs.Layout.{edge_bytes};
 ghost use Rattle.graph_file.specs.Placing.{placed, Filed, extras, listed};
 ghost use Rattle.history.specs.Graph.{history};

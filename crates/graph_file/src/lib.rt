@@ -1,4 +1,6 @@
 // Git's commit-graph file: writing it, and reading it.
+#![tactic(auto)]
+
 mod edge_list;
 mod fan_out;
 mod front;

@@ -1,6 +1,6 @@
 // How long the parts of a file are.
 ghost use Rattle.std.specs.Prelude.{◌≡◌, ◌+◌, ◌*◌, ◌<◌, ◌≤◌};
-ghost use Rattle.graph_file.specs.ParentWords.{extra};
+ghost use Rattle.graph_file.specs.Encoding.{extra};
 ghost use Rattle.graph_file.specs.Placing.{chunk_count, front_size, file_size, extras, listed};
 ghost use Rattle.history.specs.Graph.{history};
 

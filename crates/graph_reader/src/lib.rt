@@ -1,4 +1,6 @@
 // Reading Git's commit-graph file: what it holds, or what is wrong with it.
+#![tactic(auto)]
+
 mod commits;
 mod container;
 mod data_chunk;

@@ -1,8 +1,8 @@
 -- A wellformed history with one more commit. Assumes nothing.
-use Rattle.std.proofs.Common.{◌≡◌, ℕ, ◌+◌, ◌<◌, ◌≤◌, ◌⊎◌, List, [], ◌∷◌, ◌++◌, length, get_or, sym, refl, ap, ◌∙◌, subst, inl, inr, ⊎_elim, arith}
+use Rattle.std.proofs.Common.{◌≡◌, ℕ, ◌+◌, ◌<◌, ◌≤◌, List, [], ◌∷◌, ◌++◌, length, get_or, sym, refl, subst, ⊎_elim, arith}
 use Rattle.std.proofs.lemmas.Bool.{cases_eq, cases_lt}
-use Rattle.std.proofs.lemmas.List.{get_or_append_left, get_or_push, get_or_past, length_push, length-append}
-use Rattle.history.specs.History.{Commit, no_commit, commit_of, parents_of, Parent, parent_total, Wellformed}
+use Rattle.std.proofs.lemmas.List.{get_or_append_left, get_or_push, get_or_past, length_push}
+use Rattle.history.specs.History.{Commit, no_commit, commit_of, parent_total, Wellformed}
 use Rattle.history.proofs.Finding.{Absent}
 
 pub total_push : (h : List Commit) (c : Commit) → parent_total (h ++ (c ∷ [])) ≡ parent_total h + length c.parents

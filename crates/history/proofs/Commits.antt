@@ -1,13 +1,13 @@
 -- What the tables say of one commit. Assumes nothing.
-use Rattle.std.proofs.Common.{◌≡◌, ℕ, ◌+◌, ◌<◌, ◌≤◌, List, [], ◌∷◌, map, length, get_or, take, sym, refl, ap, ◌∙◌, subst, ⊎_elim, arith}
+use Rattle.std.proofs.Common.{◌≡◌, ℕ, ◌+◌, ◌<◌, ◌≤◌, List, length, get_or, take, sym, ap, ◌∙◌, subst, ⊎_elim, arith}
 use Rattle.std.proofs.lemmas.List.Edits.{length-between, get_or-between}
 use Rattle.std.proofs.lemmas.List.{length-take-le, length-map, get_or_past}
 use Rattle.std.proofs.lemmas.Bool.{cases_lt}
-use Rattle.std.specs.List.{between}
+use Rattle.labels.specs.declared.kind.LabelKind.{Ghosts}
 use Rattle.history.specs.declared.row.CommitRow.{CommitRow}
 use Rattle.history.specs.declared.graph.CommitGraph.{CommitGraph}
-use Rattle.history.specs.Graph.{history, Filled, Represents}
-use Rattle.history.specs.History.{Commit, no_commit, commit_of, parents_of, Parent}
+use Rattle.history.specs.Graph.{history, Represents}
+use Rattle.history.specs.History.{no_commit, commit_of, Parent}
 use Rattle.history.specs.Model.{Model}
 use Rattle.history.specs.Tables.{no_row, row_of, commit, commits}
 use Rattle.history.proofs.Lists.{get_d_map_take}
@@ -19,24 +19,17 @@ module _ (rows : List CommitRow) (parents : List ℕ) (count : ℕ) (rowed : cou
   pub commit_at : (k : ℕ) → k < count → commit_of (commits rows parents count) k ≡ commit parents (row_of rows k)
   commit_at k lt = get_d_map_take (commit parents) rows count k no_row no_commit rowed lt
 
--- the same of the commits that the tables are filled with
-module _ {K L : Type 0} (start : ℕ → ℕ → L) (grown : L → L → L) (m : Model) (g : CommitGraph K L) (s : Filled start grown m g) where
-  pub filled_length : length m.commits ≡ g.count
-  filled_length = sym (ap length s.commits) ∙ length_commits g.rows.items.now g.parents.items.now g.count g.rowed
-
-  pub filled_at : (k : ℕ) → k < g.count → commit_of m.commits k ≡ commit g.parents.items.now (row_of g.rows.items.now k)
-  filled_at k lt =
-      sym (ap (λ h. commit_of h k) s.commits) ∙ commit_at g.rows.items.now g.parents.items.now g.count g.rowed k lt
-
-module _ {K L : Type 0} (start : ℕ → ℕ → L) (grown : L → L → L) (m : Model) (g : CommitGraph K L) (s : Represents start grown m g) where
+-- the same of the commits that the tables represent
+module _ {K L : Type 0} {kind : Ghosts K L} (start : ℕ → ℕ → L) (grown : L → L → L) (m : Model) (g : CommitGraph K L kind) (s : Represents start grown m g) where
   pub represented_length : length m.commits ≡ g.count
-  represented_length = filled_length start grown m g s.filled
+  represented_length = sym (ap length s.commits) ∙ length_commits g.rows.items.now g.parents.items.now g.count g.rowed
 
   pub represented_at : (k : ℕ) → k < g.count → commit_of m.commits k ≡ commit g.parents.items.now (row_of g.rows.items.now k)
-  represented_at = filled_at start grown m g s.filled
+  represented_at k lt =
+      sym (ap (λ h. commit_of h k) s.commits) ∙ commit_at g.rows.items.now g.parents.items.now g.count g.rowed k lt
 
 -- what the ghost fields say of the commits that the tables hold
-module _ {K L : Type 0} (g : CommitGraph K L) where
+module _ {K L : Type 0} {kind : Ghosts K L} (g : CommitGraph K L kind) where
   pub graph_length : length (history g) ≡ g.count
   graph_length = length_commits g.rows.items.now g.parents.items.now g.count g.rowed
 

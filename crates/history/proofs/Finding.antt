@@ -1,12 +1,12 @@
 -- Where an id stands in the order by id. Assumes nothing.
-use Rattle.std.proofs.Common.{◌≡◌, ℕ, zero, suc, ◌+◌, ◌<◌, ◌≤◌, Bool, true, false, cond, ◌⊎◌, List, [], ◌∷◌, length, get_or, Some, None, Option, sym, refl, ap, ◌∙◌, subst, ap₂, inl, inr, ⊎_elim, add-zero, add-suc, arith}
-use Rattle.std.proofs.lemmas.Bool.{cases_Bool, cases_eq, cases_lt, cases_order, cond-true, cond-false, both_ways}
+use Rattle.std.proofs.Common.{◌≡◌, ℕ, zero, suc, ◌+◌, ◌<◌, ◌≤◌, true, false, List, [], ◌∷◌, length, get_or, Some, None, sym, refl, ap, ◌∙◌, subst, ⊎_elim, add-zero, arith}
+use Rattle.std.proofs.lemmas.Bool.{cases_Bool, cases_eq, cases_lt, cond-true, cond-false, both_ways}
 use Rattle.history.specs.declared.row.CommitRow.{CommitRow}
 use Rattle.history.specs.History.{Commit, commit_of, find_from, find_id, Wellformed}
 use Rattle.history.specs.Ids.{precedes, same}
 use Rattle.history.specs.Order.{Splits}
-use Rattle.history.specs.Tables.{row_of, Rising, Complete}
-use Rattle.history.proofs.Ids.{precedes_transitive, precedes_one_way, neither_precedes, not_before_itself, same_true, same_itself}
+use Rattle.history.specs.Tables.{row_of, Rising}
+use Rattle.history.proofs.Ids.{precedes_transitive, not_before_itself, same_true, same_itself}
 
 -- no commit has the id
 abbrev pub Absent : List Commit → List ℕ → Type 0

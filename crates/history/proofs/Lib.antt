@@ -8,4 +8,3 @@ pub mod Making
 pub mod Pushes
 pub mod Reading
 pub mod Refusing
-pub mod Reordering

@@ -1,10 +1,10 @@
 -- The tables after one more commit. Assumes nothing.
-use Rattle.std.proofs.Common.{◌≡◌, ℕ, ◌+◌, ◌-◌, ◌<◌, ◌≤◌, Bool, true, false, ◌⊎◌, List, [], ◌∷◌, ◌++◌, map, length, get_or, take, drop, set, sym, refl, ap, ◌∙◌, subst, ap₂, subst₂, inl, inr, ⊎_elim, arith}
+use Rattle.std.proofs.Common.{◌≡◌, ℕ, ◌+◌, ◌-◌, ◌<◌, ◌≤◌, true, List, [], ◌∷◌, ◌++◌, map, length, get_or, take, drop, set, sym, ap, ◌∙◌, subst, ap₂, ⊎_elim, arith}
 use lib.Seq.{paste}
 use Rattle.std.specs.List.{between}
-use Rattle.std.proofs.lemmas.Bool.{cases_eq, cases_lt, cases_Bool, both_ways}
+use Rattle.std.proofs.lemmas.Bool.{cases_eq, cases_lt, cases_Bool}
 use Rattle.std.proofs.lemmas.Slice.{between_is}
-use Rattle.std.proofs.lemmas.List.Edits.{take-paste, length-paste, get_or-between}
+use Rattle.std.proofs.lemmas.List.Edits.{take-paste, get_or-between}
 use Rattle.std.proofs.lemmas.List.{take-take, take-append-le, take_all, drop_at, length-take-le, take_more_set, map_push, ext_get_or, length-map, get_or-map, get_or-take, get_or-set_same, get_or-set_other}
 use Rattle.history.specs.declared.row.CommitRow.{CommitRow}
 use Rattle.history.specs.History.{Commit, no_commit}

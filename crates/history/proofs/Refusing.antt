@@ -1,6 +1,7 @@
 -- The order of the tests before a commit is added. Assumes nothing.
 use Rattle.std.proofs.Common.{◌≡◌, ℕ, ◌+◌, ◌<◌, ◌≤◌, Bool, true, false, cond, ltb, leb, length, is_some, Some, None, Option, sym, refl, ap, ◌∙◌, arith}
 use Rattle.std.proofs.lemmas.Bool.{le-ltb, lt-ltb, le-leb, lt-leb, both_ways, cond-true, cond-false}
+use Rattle.labels.specs.declared.kind.LabelKind.{Ghosts}
 use Rattle.history.specs.declared.graph.CommitGraph.{CommitGraph}
 use Rattle.history.specs.declared.refusal.Refusal.{Refusal}
 use Rattle.history.specs.declared.refusal.Refusal.TheVariants.{DateTooLate, TooManyParents, ParentNotHeld, IdHeld, CapacityPassed, ParentCapacityPassed}
@@ -27,7 +28,7 @@ module _ (m : Model) (c : Commit) where
   from_number = cond (ltb 64 (length c.parents)) (Some TooManyParents) from_held
 
 -- the tests on the tables give the model's answer
-module _ {K L : Type 0} {start : ℕ → ℕ → L} {grown : L → L → L} {m : Model} {g : CommitGraph K L} (s : Represents start grown m g) (c : Commit)
+module _ {K L : Type 0} {kind : Ghosts K L} {start : ℕ → ℕ → L} {grown : L → L → L} {m : Model} {g : CommitGraph K L kind} (s : Represents start grown m g) (c : Commit)
     (dated : c.date ≤ 17179869183) (few : length c.parents ≤ 64) where
   long : length m.commits ≡ g.count
   long = represented_length start grown m g s
@@ -51,20 +52,20 @@ module _ {K L : Type 0} {start : ℕ → ℕ → L} {grown : L → L → L} {m :
 
       pub refused_capacity : capacity g ≤ g.count → Some CapacityPassed ≡ add_refusal m c
       refused_capacity le =
-          sym (at_capacity ∙ cond-true _ _ (from_parent_capacity m c) (le-leb m.capacity (length m.commits) (omega (arith, s.filled.room, long))))
+          sym (at_capacity ∙ cond-true _ _ (from_parent_capacity m c) (le-leb m.capacity (length m.commits) (omega (arith, s.room, long))))
 
       module _ (room : g.count < capacity g) where
         at_parent_capacity : add_refusal m c ≡ from_parent_capacity m c
         at_parent_capacity =
-            at_capacity ∙ cond-false _ _ (from_parent_capacity m c) (lt-leb m.capacity (length m.commits) (omega (arith, s.filled.room, long)))
+            at_capacity ∙ cond-false _ _ (from_parent_capacity m c) (lt-leb m.capacity (length m.commits) (omega (arith, s.room, long)))
 
         pub refused_parent_capacity : parent_capacity g < g.used + length c.parents → Some ParentCapacityPassed ≡ add_refusal m c
         refused_parent_capacity lt =
-            sym (at_parent_capacity ∙ cond-true _ _ _ (lt-ltb m.parent_capacity (parent_total m.commits + length c.parents) (omega (arith, s.filled.parent_room, s.filled.listed))))
+            sym (at_parent_capacity ∙ cond-true _ _ _ (lt-ltb m.parent_capacity (parent_total m.commits + length c.parents) (omega (arith, s.parent_room, s.listed))))
 
         pub not_refused : g.used + length c.parents ≤ parent_capacity g → None ≡ add_refusal m c
         not_refused le =
-            sym (at_parent_capacity ∙ cond-false _ _ _ (le-ltb m.parent_capacity (parent_total m.commits + length c.parents) (omega (arith, s.filled.parent_room, s.filled.listed))))
+            sym (at_parent_capacity ∙ cond-false _ _ _ (le-ltb m.parent_capacity (parent_total m.commits + length c.parents) (omega (arith, s.parent_room, s.listed))))
 
 -- a test that does not refuse
 passes : {E : Type 0} (b : Bool) (x : E) (r : Option E) → cond b (Some x) r ≡ None → (b ≡ false) × (r ≡ None)

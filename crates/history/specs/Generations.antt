@@ -1,5 +1,5 @@
 -- Topological levels and corrected commit dates. Assumes nothing.
-use Rattle.std.specs.Prelude.{◌≡◌, ℕ, ◌+◌, ◌<◌, ◌≤◌, max, List, length, get_or}
+use Rattle.std.specs.Prelude.{◌≡◌, ℕ, ◌+◌, ◌≤◌, max, List}
 use Rattle.history.specs.History.{Commit, commit_of, Chain}
 use Rattle.history.specs.Labels.{labels_of}
 

@@ -1,5 +1,6 @@
 -- The tables of a commit graph as a history. Assumes nothing.
 use Rattle.std.specs.Prelude.{◌≡◌, ℕ, min, List, map, length, take}
+use Rattle.labels.specs.declared.kind.LabelKind.{Ghosts}
 use Rattle.history.specs.declared.graph.CommitGraph.{CommitGraph}
 use Rattle.history.specs.History.{Commit, Wellformed, parent_total}
 use Rattle.history.specs.Labels.{labels_of}
@@ -7,7 +8,7 @@ use Rattle.history.specs.Generations.{levels_of, corrected_of}
 use Rattle.history.specs.Model.{Model}
 use Rattle.history.specs.Tables.{commits, Rising, Complete}
 
-module _ {K L : Type 0} (g : CommitGraph K L) where
+module _ {K L : Type 0} {kind : Ghosts K L} (g : CommitGraph K L kind) where
   abbrev pub history : List Commit
   history = commits g.rows.items.now g.parents.items.now g.count
 
@@ -23,19 +24,15 @@ module _ {K L : Type 0} (g : CommitGraph K L) where
   abbrev pub parent_capacity : ℕ
   parent_capacity = min (length g.parents.items.now) 262144
 
--- the tables hold the model's commits, with the labels that the kind makes, whatever the order by id holds
-pub record Filled {K L : Type 0} (start : ℕ → ℕ → L) (grown : L → L → L) (m : Model) (g : CommitGraph K L) : Type 0 where
+-- the tables hold the model's commits, with the labels that the kind makes
+pub record Represents {K L : Type 0} {kind : Ghosts K L} (start : ℕ → ℕ → L) (grown : L → L → L) (m : Model) (g : CommitGraph K L kind) : Type 0 where
   pub commits : history g ≡ m.commits
   pub labels : take g.count g.labels.items.now ≡ labels_of start grown m.commits
   pub levels : map (λ r. r.level) (take g.count g.rows.items.now) ≡ levels_of m.commits
   pub corrected : map (λ r. r.corrected) (take g.count g.rows.items.now) ≡ corrected_of m.commits
   pub listed : g.used ≡ parent_total m.commits
   pub wellformed : Wellformed m.commits
-  pub room : capacity g ≡ m.capacity
-  pub parent_room : parent_capacity g ≡ m.parent_capacity
-
--- and the order by id holds each commit's number, in rising order of their ids
-pub record Represents {K L : Type 0} (start : ℕ → ℕ → L) (grown : L → L → L) (m : Model) (g : CommitGraph K L) : Type 0 where
-  pub filled : Filled start grown m g
   pub rising : Rising g.rows.items.now g.order.items.now g.count
   pub complete : Complete g.order.items.now g.count
+  pub room : capacity g ≡ m.capacity
+  pub parent_room : parent_capacity g ≡ m.parent_capacity

@@ -1,5 +1,5 @@
 -- A commit history: the list of its commits in the order in which they were added. A commit's number is its place. Assumes nothing.
-use Rattle.std.specs.Prelude.{◌≡◌, ℕ, suc, ◌+◌, ◌<◌, ◌≤◌, cond, List, [], ◌∷◌, map, length, Some, None, Option, slice_index, slice_index_or}
+use Rattle.std.specs.Prelude.{◌≡◌, ℕ, suc, ◌+◌, ◌<◌, ◌≤◌, cond, List, [], ◌∷◌, length, Some, None, Option, slice_index, slice_index_or}
 use Rattle.history.specs.Ids.{same}
 
 -- ids are lists of 20 bytes, the date is in seconds, parents are numbers

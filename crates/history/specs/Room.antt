@@ -1,37 +1,26 @@
 -- When a commit fits, and which entries of the tables change when it is added. Assumes nothing.
 use Rattle.std.specs.Prelude.{◌≡◌, ℕ, ◌+◌, ◌<◌, ◌≤◌, List, length, take, drop, slice_index}
+use Rattle.labels.specs.declared.kind.LabelKind.{Ghosts}
 use Rattle.history.specs.declared.graph.CommitGraph.{CommitGraph}
 use Rattle.history.specs.Graph.{capacity, parent_capacity}
 
-pub record Fits {K L : Type 0} (g : CommitGraph K L) (date : ℕ) (parents : List ℕ) : Type 0 where
+pub record Fits {K L : Type 0} {kind : Ghosts K L} (g : CommitGraph K L kind) (date : ℕ) (parents : List ℕ) : Type 0 where
   pub dated : date ≤ 17179869183
   pub few : length parents ≤ 64
   pub held : (k : ℕ) → k < length parents → slice_index parents k < g.count
   pub room : g.count < capacity g
   pub parent_room : g.used + length parents ≤ parent_capacity g
 
--- all entries before `from` and from `to` on stand, and there are as many
+-- all entries before `from` and from `to` on stand
 pub record Outside {X : Type 0} (old new : List X) (from to : ℕ) : Type 0 where
-  pub long : length new ≡ length old
   pub before : take from new ≡ take from old
   pub behind : drop to new ≡ drop to old
 
 -- one commit more, with so many parents: each table's one new entry, the parents' new entries, and the order by id up to the new count
-pub record Appended {K L : Type 0} (old new : CommitGraph K L) (size : ℕ) : Type 0 where
+pub record Appended {K L : Type 0} {kind : Ghosts K L} (old new : CommitGraph K L kind) (size : ℕ) : Type 0 where
   pub count : new.count ≡ old.count + 1
   pub used : new.used ≡ old.used + size
   pub rows : Outside old.rows.items.now new.rows.items.now old.count (old.count + 1)
   pub labels : Outside old.labels.items.now new.labels.items.now old.count (old.count + 1)
   pub order : Outside old.order.items.now new.order.items.now 0 (old.count + 1)
   pub parents : Outside old.parents.items.now new.parents.items.now old.used (old.used + size)
-
--- the order by id written anew: all else stands
-pub record Reordered {K L : Type 0} (old new : CommitGraph K L) (list : List ℕ) : Type 0 where
-  pub count : new.count ≡ old.count
-  pub used : new.used ≡ old.used
-  pub rows : new.rows.items.now ≡ old.rows.items.now
-  pub labels : new.labels.items.now ≡ old.labels.items.now
-  pub parents : new.parents.items.now ≡ old.parents.items.now
-  pub order : take old.count new.order.items.now ≡ list
-  pub behind : drop old.count new.order.items.now ≡ drop old.count old.order.items.now
-  pub long : length new.order.items.now ≡ length old.order.items.now

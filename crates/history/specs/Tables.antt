@@ -1,5 +1,5 @@
 -- What the tables stand for. Assumes nothing.
-use Rattle.std.specs.Prelude.{◌≡◌, ℕ, ◌+◌, ◌<◌, ◌≤◌, true, List, [], ◌∷◌, map, length, take, slice_index, slice_index_or}
+use Rattle.std.specs.Prelude.{◌≡◌, ℕ, ◌+◌, ◌<◌, ◌≤◌, true, List, [], map, take, slice_index, slice_index_or}
 use Rattle.std.specs.List.{between}
 use Rattle.history.specs.declared.row.CommitRow.{CommitRow}
 use Rattle.history.specs.declared.object_id.ObjectId.{ObjectId}

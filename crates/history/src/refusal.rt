@@ -1,8 +1,8 @@
 // Why a call is refused.
 ghost use Rattle.std.specs.Prelude.{◌≡◌};
-ghost use Rattle.history.specs.Refusals.{refusal_number, needed_length};
+ghost use Rattle.history.specs.Refusals.{refusal_number, refusal_values};
+ghost use Rattle.std.specs.Option.{option_to_list};
 
-use crate::load_fault::LoadFault;
 use std::fmt;
 
 #[derive(Clone, Copy)]
@@ -19,16 +19,12 @@ pub enum Refusal {
     CapacityPassed,
     // the table of parents has no room for the parents
     ParentCapacityPassed,
-    // the marks, queue or places are too short
+    // the marks or the queue are too short
     BufferTooShort,
     // the list for the results is too short: the length needed
     ResultTooShort(usize),
     // a named commit is not held
     CommitNotHeld,
-    // a file is to be loaded, and the history holds a commit
-    HistoryNotEmpty,
-    // the file to be loaded is not one that a history has
-    FileFault(LoadFault),
 }
 
 impl Refusal {
@@ -46,8 +42,6 @@ impl Refusal {
             Refusal::BufferTooShort => 7,
             Refusal::ResultTooShort(_) => 8,
             Refusal::CommitNotHeld => 9,
-            Refusal::HistoryNotEmpty => 10,
-            Refusal::FileFault(fault) => fault.cause(),
         }
     }
 }
@@ -55,7 +49,7 @@ impl Refusal {
 impl Refusal {
     // The length that would have been enough, where the refusal carries one.
     pub fn needed(self) -> Option<usize>
-        ensures { result ≡ needed_length self }
+        ensures { option_to_list result ≡ refusal_values self }
     {
         match self {
             Refusal::ResultTooShort(needed) => Some(needed),
@@ -66,9 +60,7 @@ impl Refusal {
             | Refusal::CapacityPassed
             | Refusal::ParentCapacityPassed
             | Refusal::BufferTooShort
-            | Refusal::CommitNotHeld
-            | Refusal::HistoryNotEmpty
-            | Refusal::FileFault(_) => None,
+            | Refusal::CommitNotHeld => None,
         }
     }
 }
@@ -82,7 +74,7 @@ impl fmt::Display for Refusal {
             Refusal::IdHeld => "the id is held already",
             Refusal::CapacityPassed => "there is no room for one commit more",
             Refusal::ParentCapacityPassed => "there is no room for the parents",
-            Refusal::BufferTooShort => "the marks, queue or places are too short",
+            Refusal::BufferTooShort => "the marks or the queue are too short",
             Refusal::ResultTooShort(needed) => {
                 return write!(
                     f,
@@ -90,15 +82,6 @@ impl fmt::Display for Refusal {
                 );
             }
             Refusal::CommitNotHeld => "a named commit is not held",
-            Refusal::HistoryNotEmpty => "the history holds a commit already",
-            Refusal::FileFault(fault) => {
-                return write!(
-                    f,
-                    "{fault}, layer {} place {}",
-                    fault.layer(),
-                    fault.place()
-                );
-            }
         };
         f.write_str(words)
     }

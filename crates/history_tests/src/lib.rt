@@ -1,4 +1,6 @@
 // Tests of a history at the bounds of its tables.
+#![tactic(auto)]
+
 #[cfg(test)]
 mod tests {
     use history::{CommitGraph, CommitRow, ObjectId};

@@ -1,4 +1,6 @@
 // Reachability labels: the interface of a label kind, its three laws, and the kinds.
+#![tactic(auto)]
+
 mod blank;
 mod byte_level;
 mod corrected_date;

@@ -1,5 +1,6 @@
 // Two kinds side by side: a label has both labels, and a commit is ruled out when either part rules it out.
 ghost use Rattle.labels.specs.Kinds.{pair_start, pair_grown, pair_allows};
+ghost use Rattle.labels.specs.Lawful.{pair_laws};
 
 use crate::kind::LabelKind;
 
@@ -13,6 +14,12 @@ impl<A: LabelKind, B: LabelKind> LabelKind for Pair<A, B> {
     ghost grown = { pair_grown A.LabelKind.grown B.LabelKind.grown };
 
     ghost allows = { pair_allows A.LabelKind.allows B.LabelKind.allows };
+
+    ghost transitive = { (pair_laws (record { transitive = A.transitive; over = A.over; kept = A.kept }) (record { transitive = B.transitive; over = B.over; kept = B.kept })).transitive };
+
+    ghost over = { (pair_laws (record { transitive = A.transitive; over = A.over; kept = A.kept }) (record { transitive = B.transitive; over = B.over; kept = B.kept })).over };
+
+    ghost kept = { (pair_laws (record { transitive = A.transitive; over = A.over; kept = A.kept }) (record { transitive = B.transitive; over = B.over; kept = B.kept })).kept };
 
     fn first(number: u32, date: u64) -> (A::Label, B::Label) {
         (A::first(number, date), B::first(number, date))

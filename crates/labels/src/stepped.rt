@@ -1,5 +1,6 @@
 // The stepped kinds: a label is one number, above that of each parent until it comes to the top.
 ghost use Rattle.labels.specs.Formulas.{stepped, beyond};
+ghost use Rattle.labels.specs.Lawful.{numbered_laws};
 
 use crate::kind::LabelKind;
 use crate::step::Step;
@@ -14,6 +15,12 @@ impl<S: Step> LabelKind for Stepped<S> {
     ghost grown = { λ x p. S.Step.label (stepped S.Step.top (S.Step.value x) (S.Step.value p)) };
 
     ghost allows = { λ x y. beyond S.Step.top (S.Step.value x) (S.Step.value y) };
+
+    ghost transitive = { (numbered_laws S.Step.top S.Step.value S.Step.label S.Step.back S.Step.held).transitive };
+
+    ghost over = { (numbered_laws S.Step.top S.Step.value S.Step.label S.Step.back S.Step.held).over };
+
+    ghost kept = { (numbered_laws S.Step.top S.Step.value S.Step.label S.Step.back S.Step.held).kept };
 
     fn first(number: u32, date: u64) -> S::Number {
         S::first(number, date)

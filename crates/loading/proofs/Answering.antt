@@ -5,6 +5,7 @@ use Rattle.graph_file.specs.Layout.{file_bytes}
 use Rattle.graph_reader.specs.Bytes.{told_count}
 use Rattle.graph_reader.specs.Verdict.{file_fault, parents_in, total_of}
 use Rattle.graph_reader.proofs.Accepted.{accepted, accepted_count, accepted_total}
+use Rattle.labels.specs.declared.kind.LabelKind.{Ghosts}
 use Rattle.history.specs.declared.graph.CommitGraph.{CommitGraph}
 use Rattle.history.specs.Graph.{capacity, parent_capacity, Represents}
 use Rattle.history.specs.History.{Commit, Wellformed, parent_total}
@@ -13,7 +14,7 @@ use Rattle.history.proofs.Commits.{represented_length}
 use Rattle.loading.specs.Loads.{load_refusal}
 use Rattle.loading.proofs.Refusing.{Loadable, not_refused}
 
-module _ {K L : Type 0} (start : ℕ → ℕ → L) (grown : L → L → L) (m : Model) (g : CommitGraph K L) (s : Represents start grown m g) (file : List ℕ) (queue places : ℕ) where
+module _ {K L : Type 0} {kind : Ghosts K L} (start : ℕ → ℕ → L) (grown : L → L → L) (m : Model) (g : CommitGraph K L kind) (s : Represents start grown m g) (file : List ℕ) (queue places : ℕ) where
   -- the tables are tested as the model says
   pub model_refusal : load_refusal g.count (capacity g) (parent_capacity g) file queue places ≡ load_refusal (length m.commits) m.capacity m.parent_capacity file queue places
   model_refusal =

@@ -4,13 +4,14 @@ use Rattle.frontier.specs.declared.elements.ByLevel.{ByLevel}
 use Rattle.graph_reader.specs.Bytes.{told_count}
 use Rattle.graph_reader.specs.Verdict.{file_fault}
 use Rattle.graph_reader.proofs.Sounding.{sound}
+use Rattle.labels.specs.declared.kind.LabelKind.{Ghosts}
 use Rattle.history.specs.declared.graph.CommitGraph.{CommitGraph}
 use Rattle.loading.specs.Filling.{Admitted}
 use Rattle.loading.proofs.Ending.{number_below, described}
 use Rattle.loading.proofs.Numbering.{Numbered}
 use Rattle.loading.proofs.Progressing.{Progress}
 
-module _ {K L : Type 0} (start : ℕ → ℕ → L) (grown : L → L → L) (file : List ℕ) (small : (i : ℕ) → get_or file i 0 < 256) (fine : file_fault file ≡ None) (g g' : CommitGraph K L)
+module _ {K L : Type 0} {kind : Ghosts K L} (start : ℕ → ℕ → L) (grown : L → L → L) (file : List ℕ) (small : (i : ℕ) → get_or file i 0 < 256) (fine : file_fault file ≡ None) (g g' : CommitGraph K L kind)
     (queue queue' : List ByLevel) (places places' : List ℕ) (number : ℕ) (all : number ≡ told_count file) (room : told_count file ≤ length places)
     (s : Progress start grown file g g' queue queue' places places' number) where
   done_all : Numbered file s.done places' 0 queue'

@@ -4,6 +4,7 @@ use Rattle.std.proofs.lemmas.List.{length-take-le, get_or-take}
 use Rattle.frontier.specs.declared.elements.ByLevel.{ByLevel}
 use Rattle.graph_file.specs.Encoding.{FileOrder}
 use Rattle.graph_reader.specs.Bytes.{told_count}
+use Rattle.labels.specs.declared.kind.LabelKind.{Ghosts}
 use Rattle.history.specs.declared.graph.CommitGraph.{CommitGraph}
 use Rattle.history.specs.Graph.{Filled, Represents}
 use Rattle.history.specs.History.{Commit, parent_total}
@@ -17,7 +18,7 @@ use Rattle.loading.specs.Loads.{Loaded}
 use Rattle.loading.proofs.Unique.{described_unique}
 
 -- tables that are filled with a history: its file order is an order by id
-module _ {K L : Type 0} (start : ℕ → ℕ → L) (grown : L → L → L) (m : Model) (g : CommitGraph K L) (s : Filled start grown m g) (order : List ℕ) (o : FileOrder m.commits order) where
+module _ {K L : Type 0} {kind : Ghosts K L} (start : ℕ → ℕ → L) (grown : L → L → L) (m : Model) (g : CommitGraph K L kind) (s : Filled start grown m g) (order : List ℕ) (o : FileOrder m.commits order) where
   same_long : length order ≡ g.count
   same_long = o.long ∙ filled_length start grown m g s
 
@@ -35,7 +36,7 @@ module _ {K L : Type 0} (start : ℕ → ℕ → L) (grown : L → L → L) (m :
   order_complete a lt =
       let q = o.complete a (omega (arith, filled_length start grown m g s)) in (q.0, omega (arith, q.1, same_long), q.2)
 
-module _ {K L : Type 0} (start : ℕ → ℕ → L) (grown : L → L → L) (file : List ℕ) (g h g' : CommitGraph K L) (queue queue' : List ByLevel) (places places' list : List ℕ)
+module _ {K L : Type 0} {kind : Ghosts K L} (start : ℕ → ℕ → L) (grown : L → L → L) (file : List ℕ) (g h g' : CommitGraph K L kind) (queue queue' : List ByLevel) (places places' list : List ℕ)
     (a : Admitted start grown file g h queue queue' places places') (is : list ≡ take (told_count file) places') (r : Reordered h g' list)
     (represents : (m : Model) → Filled start grown m h → Rising h.rows.items.now list h.count → Complete list h.count → Represents start grown m g')
     (empty : (m : Model) → Filled start grown m g → m.commits ≡ []) where

@@ -7,6 +7,7 @@ use Rattle.frontier.specs.Heaps.{TakenOut}
 use Rattle.graph_reader.specs.Bytes.{told_count}
 use Rattle.graph_reader.specs.FileCommits.{file_commit, renumbered, Sound}
 use Rattle.graph_reader.specs.Verdict.{parents_in, total_of}
+use Rattle.labels.specs.declared.kind.LabelKind.{Ghosts}
 use Rattle.history.specs.declared.graph.CommitGraph.{CommitGraph}
 use Rattle.history.specs.Graph.{capacity, parent_capacity, Filled}
 use Rattle.history.specs.History.{Commit, find_id}
@@ -23,12 +24,12 @@ use Rattle.loading.proofs.Takes.{taken_sum}
 outside_on : {X : Type 0} (a b c : List X) (n m from to : ℕ) → n ≤ to → to ≡ m → drop n b ≡ drop n a → Outside b c from to → drop m c ≡ drop m a
 outside_on a b c n m from to le e p o = subst (λ k. drop k c ≡ drop k a) e (o.behind ∙ drop_later n to b a le p)
 
-module _ {K L : Type 0} where
-  pub grown_none : (g : CommitGraph K L) → Grown g g
+module _ {K L : Type 0} {kind : Ghosts K L} where
+  pub grown_none : (g : CommitGraph K L kind) → Grown g g
   grown_none g =
       record { rows = refl; labels = refl; order = refl; parents = refl; row_room = refl; label_room = refl; order_room = refl; parent_room = refl }
 
-  pub grown_more : (g₀ g g' : CommitGraph K L) (size : ℕ) → Grown g₀ g → Appended g g' size → Grown g₀ g'
+  pub grown_more : (g₀ g g' : CommitGraph K L kind) (size : ℕ) → Grown g₀ g → Appended g g' size → Grown g₀ g'
   unfolding outside_on
   grown_more g₀ g g' size s a =
       record {
@@ -42,14 +43,14 @@ module _ {K L : Type 0} where
         parent_room = a.parents.long ∙ s.parent_room;
       }
 
-  pub grown_capacity : (g₀ g : CommitGraph K L) → Grown g₀ g → capacity g ≡ capacity g₀
+  pub grown_capacity : (g₀ g : CommitGraph K L kind) → Grown g₀ g → capacity g ≡ capacity g₀
   grown_capacity g₀ g s = omega (arith, s.row_room, s.label_room, s.order_room)
 
-  pub grown_parents : (g₀ g : CommitGraph K L) → Grown g₀ g → parent_capacity g ≡ parent_capacity g₀
+  pub grown_parents : (g₀ g : CommitGraph K L kind) → Grown g₀ g → parent_capacity g ≡ parent_capacity g₀
   grown_parents g₀ g s = omega (arith, s.parent_room)
 
 -- `number` commits have been admitted
-pub record Progress {K L : Type 0} (start : ℕ → ℕ → L) (grown : L → L → L) (file : List ℕ) (g₀ g : CommitGraph K L) (queue₀ queue : List ByLevel) (places₀ places : List ℕ) (number : ℕ) :
+pub record Progress {K L : Type 0} {kind : Ghosts K L} (start : ℕ → ℕ → L) (grown : L → L → L) (file : List ℕ) (g₀ g : CommitGraph K L kind) (queue₀ queue : List ByLevel) (places₀ places : List ℕ) (number : ℕ) :
     Type 0 where
   pub done : List ℕ
   pub numbered : Numbered file done places (told_count file - number) queue
@@ -63,14 +64,14 @@ pub record Progress {K L : Type 0} (start : ℕ → ℕ → L) (grown : L → L 
   pub filled : (m : Model) → Filled start grown m g₀ → m.commits ≡ [] → (h : List Commit) × Filled start grown (holding m h) g × Recorded file h done places
 
 -- the commit at position p has its parents numbered, and there is room for it
-pub record Fits {K L : Type 0} (file : List ℕ) (g : CommitGraph K L) (places : List ℕ) (p : ℕ) : Type 0 where
+pub record Fits {K L : Type 0} {kind : Ghosts K L} (file : List ℕ) (g : CommitGraph K L kind) (places : List ℕ) (p : ℕ) : Type 0 where
   pub within : p < told_count file
   pub numbered : (j : ℕ) → j < length (file_commit file p).parents → get_or places (get_or (file_commit file p).parents j 0) 0 < g.count
   pub places_room : told_count file ≤ length places
   pub room : g.count < capacity g
   pub parent_room : g.used + length (file_commit file p).parents ≤ parent_capacity g
 
-module _ {K L : Type 0} (start : ℕ → ℕ → L) (grown : L → L → L) (file : List ℕ) (g₀ : CommitGraph K L) (queue₀ : List ByLevel) (places₀ : List ℕ) where
+module _ {K L : Type 0} {kind : Ghosts K L} (start : ℕ → ℕ → L) (grown : L → L → L) (file : List ℕ) (g₀ : CommitGraph K L kind) (queue₀ : List ByLevel) (places₀ : List ℕ) where
   abbrev n : ℕ
   n = told_count file
 
@@ -92,7 +93,7 @@ module _ {K L : Type 0} (start : ℕ → ℕ → L) (grown : L → L → L) (fil
       }
 
   -- one position is taken out, and the commit there admitted
-  module _ (sound : Sound file) (room : Roomy file g₀ places₀) (g : CommitGraph K L) (old new : List ByLevel) (places : List ℕ) (number : ℕ) (x : ByLevel)
+  module _ (sound : Sound file) (room : Roomy file g₀ places₀) (g : CommitGraph K L kind) (old new : List ByLevel) (places : List ℕ) (number : ℕ) (x : ByLevel)
       (s : Progress start grown file g₀ g queue₀ old places₀ places number) (long : length new ≡ length old) (t : TakenOut by_level old new (n - number) x) where
     abbrev p : ℕ
     p = x.position
@@ -115,7 +116,7 @@ module _ {K L : Type 0} (start : ℕ → ℕ → L) (grown : L → L → L) (fil
           parent_room = omega (arith, weight, s.weighed, room.parent_room, grown_parents g₀ g s.tables);
         }
 
-    module _ (g' : CommitGraph K L) (places' : List ℕ) (put : places' ≡ set places p g.count) (rest : drop (n - number) new ≡ drop (n - number) old) (a : Appended g g' (length (file_commit file p).parents))
+    module _ (g' : CommitGraph K L kind) (places' : List ℕ) (put : places' ≡ set places p g.count) (rest : drop (n - number) new ≡ drop (n - number) old) (a : Appended g g' (length (file_commit file p).parents))
         (filled : (m : Model) → Filled start grown m g → find_id m.commits (file_commit file p).id ≡ None → Filled start grown (plus m (renumbered places (file_commit file p))) g') where
       pub progress_more : Progress start grown file g₀ g' queue₀ new places₀ places' (number + 1)
       unfolding within weight

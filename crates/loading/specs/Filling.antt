@@ -3,6 +3,7 @@ use Rattle.std.specs.Prelude.{◌≡◌, ℕ, ◌<◌, ◌≤◌, List, [], leng
 use Rattle.frontier.specs.declared.elements.ByLevel.{ByLevel}
 use Rattle.graph_reader.specs.Bytes.{told_count}
 use Rattle.graph_reader.specs.Verdict.{parents_in, total_of}
+use Rattle.labels.specs.declared.kind.LabelKind.{Ghosts}
 use Rattle.history.specs.declared.graph.CommitGraph.{CommitGraph}
 use Rattle.history.specs.Graph.{capacity, parent_capacity, Filled}
 use Rattle.history.specs.History.{Commit}
@@ -10,7 +11,7 @@ use Rattle.history.specs.Model.{Model}
 use Rattle.loading.specs.Described.{Described}
 
 -- the tables keep their lengths, and their entries behind the commits that they hold now
-pub record Grown {K L : Type 0} (old new : CommitGraph K L) : Type 0 where
+pub record Grown {K L : Type 0} {kind : Ghosts K L} (old new : CommitGraph K L kind) : Type 0 where
   pub rows : drop new.count new.rows.items.now ≡ drop new.count old.rows.items.now
   pub labels : drop new.count new.labels.items.now ≡ drop new.count old.labels.items.now
   pub order : drop new.count new.order.items.now ≡ drop new.count old.order.items.now
@@ -21,7 +22,7 @@ pub record Grown {K L : Type 0} (old new : CommitGraph K L) : Type 0 where
   pub parent_room : length new.parents.items.now ≡ length old.parents.items.now
 
 -- empty tables with room for the file's commits, and a list with room for their numbers
-pub record Roomy {K L : Type 0} (file : List ℕ) (g : CommitGraph K L) (places : List ℕ) : Type 0 where
+pub record Roomy {K L : Type 0} {kind : Ghosts K L} (file : List ℕ) (g : CommitGraph K L kind) (places : List ℕ) : Type 0 where
   pub empty : g.count ≡ 0
   pub unused : g.used ≡ 0
   pub commit_room : told_count file ≤ capacity g
@@ -33,7 +34,7 @@ abbrev pub holding : Model → List Commit → Model
 holding m h = record { commits = h; capacity = m.capacity; parent_capacity = m.parent_capacity }
 
 -- the tables hold the history that the file describes; entry p of `places` is the number of the commit at file position p
-pub record Admitted {K L : Type 0} (start : ℕ → ℕ → L) (grown : L → L → L) (file : List ℕ) (g g' : CommitGraph K L) (queue queue' : List ByLevel) (places places' : List ℕ) : Type 0 where
+pub record Admitted {K L : Type 0} {kind : Ghosts K L} (start : ℕ → ℕ → L) (grown : L → L → L) (file : List ℕ) (g g' : CommitGraph K L kind) (queue queue' : List ByLevel) (places places' : List ℕ) : Type 0 where
   pub count : g'.count ≡ told_count file
   pub tables : Grown g g'
   pub queue_rest : drop (told_count file) queue' ≡ drop (told_count file) queue

@@ -5,6 +5,7 @@ use Rattle.frontier.specs.declared.elements.ByLevel.{ByLevel}
 use Rattle.graph_reader.specs.Bytes.{told_count}
 use Rattle.graph_reader.specs.Faults.{either}
 use Rattle.graph_reader.specs.Verdict.{file_fault, parents_in, total_of}
+use Rattle.labels.specs.declared.kind.LabelKind.{Ghosts}
 use Rattle.history.specs.declared.graph.CommitGraph.{CommitGraph}
 use Rattle.history.specs.declared.refusal.Refusal.{Refusal}
 use Rattle.history.specs.declared.refusal.Refusal.TheVariants.{CapacityPassed, ParentCapacityPassed, BufferTooShort, HistoryNotEmpty, FileFault}
@@ -41,7 +42,7 @@ pub record Told (file : List ℕ) (h : List Commit) (order : List ℕ) : Type 0 
 
 -- the history is now the one that the file describes; entry p of `places` is the number of the commit at file position p. All entries of the tables
 -- behind the commits, and of queue and places from the number of commits on, stand
-pub record Loaded {K L : Type 0} (start : ℕ → ℕ → L) (grown : L → L → L) (file : List ℕ) (g g' : CommitGraph K L) (queue queue' : List ByLevel) (places places' : List ℕ) : Type 0 where
+pub record Loaded {K L : Type 0} {kind : Ghosts K L} (start : ℕ → ℕ → L) (grown : L → L → L) (file : List ℕ) (g g' : CommitGraph K L kind) (queue queue' : List ByLevel) (places places' : List ℕ) : Type 0 where
   pub count : g'.count ≡ told_count file
   pub tables : Grown g g'
   pub later_queue : drop (told_count file) queue' ≡ drop (told_count file) queue

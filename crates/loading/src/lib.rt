@@ -1,4 +1,6 @@
 // Loading a commit-graph file into an empty history.
+#![tactic(auto)]
+
 mod admit;
 mod checked_file;
 mod loader;

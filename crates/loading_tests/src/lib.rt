@@ -1,4 +1,6 @@
 // Small files: written, loaded and written again, with the values worked out by hand or by Git.
+#![tactic(auto)]
+
 #[cfg(test)]
 mod git_file;
 #[cfg(test)]

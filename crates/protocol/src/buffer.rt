@@ -1,8 +1,7 @@
-// The lists that a request is lent.
+// The lists that a question is lent.
 #[derive(Clone, Copy)]
 pub enum Buffer {
     Results,
     Marks,
     Queue,
-    Places,
 }

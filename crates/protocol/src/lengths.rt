@@ -1,8 +1,7 @@
-// The lengths of the lists that a request is lent, where it sets them.
+// The lengths of the lists that a question is lent, where the request sets them.
 #[derive(Clone, Copy)]
 pub struct Lengths {
     pub results: Option<usize>,
     pub marks: Option<usize>,
     pub queue: Option<usize>,
-    pub places: Option<usize>,
 }

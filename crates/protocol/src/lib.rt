@@ -1,10 +1,11 @@
 // The requests of the program, read from lines.
+#![tactic(auto)]
+
 mod base_kind;
 mod buffer;
 mod hex;
 mod kind;
 mod lengths;
-mod lent;
 mod limits;
 mod line;
 mod numbers;
@@ -20,4 +21,4 @@ pub use lengths::Lengths;
 pub use limits::LONGEST_LINE;
 pub use line::parse;
 pub use parse_error::{ParseError, Part};
-pub use request::{Addition, Containment, Loading, Opening, Request, TwoCommits, Writing};
+pub use request::{Addition, Containment, Opening, Request, TwoCommits, Writing};

@@ -1,7 +1,6 @@
 // Reading a request from a line.
-use crate::lent::Lent;
 use crate::parse_error::{ParseError, Part};
-use crate::request::{Addition, Containment, Loading, Opening, Request, TwoCommits, Writing};
+use crate::request::{Addition, Containment, Opening, Request, TwoCommits, Writing};
 use crate::words::Words;
 use std::alloc::Global;
 
@@ -56,10 +55,10 @@ fn parse_contains(mut words: Words<'_>, heap: Global) -> Result<Request, ParseEr
     }))
 }
 
-fn parse_two_commits(mut words: Words<'_>, lent: Lent) -> Result<TwoCommits, ParseError> {
+fn parse_two_commits(mut words: Words<'_>, has_results: bool) -> Result<TwoCommits, ParseError> {
     let a = words.commit(Part::First)?;
     let b = words.commit(Part::Second)?;
-    let lengths = words.options(lent)?;
+    let lengths = words.options(has_results)?;
     Ok(TwoCommits { a, b, lengths })
 }
 
@@ -67,12 +66,6 @@ fn parse_write(mut words: Words<'_>, heap: Global) -> Result<Request, ParseError
     let path = words.path(heap)?;
     let length = words.last_length()?;
     Ok(Request::Write(Writing { path, length }))
-}
-
-fn parse_load(mut words: Words<'_>, heap: Global) -> Result<Request, ParseError> {
-    let path = words.path(heap)?;
-    let lengths = words.options(Lent::Loading)?;
-    Ok(Request::Load(Loading { path, lengths }))
 }
 
 // The request that a line makes.
@@ -91,10 +84,9 @@ pub fn parse(heap: Global, line: &str) -> Result<Request, ParseError> {
         "find" => parse_find(words),
         "show" => parse_show(words),
         "contains" => parse_contains(words, heap),
-        "ahead-behind" => Ok(Request::AheadBehind(parse_two_commits(words, Lent::Walk)?)),
-        "merge-bases" => Ok(Request::MergeBases(parse_two_commits(words, Lent::WalkWithResults)?)),
+        "ahead-behind" => Ok(Request::AheadBehind(parse_two_commits(words, false)?)),
+        "merge-bases" => Ok(Request::MergeBases(parse_two_commits(words, true)?)),
         "write" => parse_write(words, heap),
-        "load" => parse_load(words, heap),
         _ => Err(ParseError::UnknownRequest),
     }
 }

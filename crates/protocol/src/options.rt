@@ -1,10 +1,9 @@
-// The options of a request: NAME=LENGTH, each name at most once.
+// The options of a question: NAME=LENGTH, each name at most once.
 ghost use Rattle.std.specs.Prelude.{◌≡◌, MatchOption, ◌≢◌};
-ghost use Rattle.protocol.specs.Buffers.{buffer_word, lends, length_of, with_length};
+ghost use Rattle.protocol.specs.Buffers.{buffer_word, length_of, with_length};
 
 use crate::buffer::Buffer;
 use crate::lengths::Lengths;
-use crate::lent::Lent;
 use crate::numbers::table_length;
 use crate::parse_error::{ParseError, Part};
 
@@ -16,7 +15,6 @@ impl Buffer {
             "results" => Some(Buffer::Results),
             "marks" => Some(Buffer::Marks),
             "queue" => Some(Buffer::Queue),
-            "places" => Some(Buffer::Places),
             _ => None,
         }
     }
@@ -26,21 +24,6 @@ impl Buffer {
             Buffer::Results => Part::Results,
             Buffer::Marks => Part::Marks,
             Buffer::Queue => Part::Queue,
-            Buffer::Places => Part::Places,
-        }
-    }
-}
-
-impl Lent {
-    fn has(self, buffer: Buffer) -> bool
-        ensures { result ≡ lends self buffer }
-    {
-        match (self, buffer) {
-            (_, Buffer::Queue) => true,
-            (Lent::Walk | Lent::WalkWithResults, Buffer::Marks) => true,
-            (Lent::WalkWithResults, Buffer::Results) => true,
-            (Lent::Loading, Buffer::Places) => true,
-            _ => false,
         }
     }
 }
@@ -53,7 +36,6 @@ impl Lengths {
             Buffer::Results => self.results,
             Buffer::Marks => self.marks,
             Buffer::Queue => self.queue,
-            Buffer::Places => self.places,
         }
     }
 
@@ -65,64 +47,54 @@ impl Lengths {
             results,
             marks,
             queue,
-            places,
         } = self;
         match buffer {
             Buffer::Results => Lengths {
                 results: length,
                 marks,
                 queue,
-                places,
             },
             Buffer::Marks => Lengths {
                 results,
                 marks: length,
                 queue,
-                places,
             },
             Buffer::Queue => Lengths {
                 results,
                 marks,
                 queue: length,
-                places,
-            },
-            Buffer::Places => Lengths {
-                results,
-                marks,
-                queue,
-                places: length,
             },
         }
     }
 }
 
-// The options of a request that were read so far.
+// The options of a question that were read so far.
 #[derive(Clone, Copy)]
 pub struct Options {
     pub lengths: Lengths,
-    pub lent: Lent,
+    // whether the length of the results is one of them
+    pub has_results: bool,
     pub is_empty: bool,
 }
 
 impl Options {
-    pub fn none(lent: Lent) -> Options {
+    pub fn none(has_results: bool) -> Options {
         Options {
             lengths: Lengths {
                 results: None,
                 marks: None,
                 queue: None,
-                places: None,
             },
-            lent,
+            has_results,
             is_empty: true,
         }
     }
 
-    // The list that a name stands for, if the request is lent it.
+    // The list that a name stands for, if the question is lent it.
     fn named(self, name: &str) -> Option<Buffer> {
         match Buffer::from_word(name) {
-            Some(buffer) if self.lent.has(buffer) => Some(buffer),
-            _ => None,
+            Some(Buffer::Results) if !self.has_results => None,
+            buffer => buffer,
         }
     }
 
@@ -142,7 +114,7 @@ impl Options {
         };
         Ok(Options {
             lengths: self.lengths.with(buffer, length),
-            lent: self.lent,
+            has_results: self.has_results,
             is_empty: false,
         })
     }

@@ -23,7 +23,6 @@ pub enum Part {
     Results,
     Marks,
     Queue,
-    Places,
     Path,
     File,
 }
@@ -48,7 +47,6 @@ impl Part {
             Part::Results => "the length of the results",
             Part::Marks => "the length of the marks",
             Part::Queue => "the length of the queue",
-            Part::Places => "the length of the places",
             Part::Path => "the path",
             Part::File => "the length of the buffer",
         }
@@ -60,9 +58,7 @@ impl Part {
             Part::Rows | Part::Labels | Part::Order | Part::Parents => Form::Number(
                 LONGEST_TABLE as u64,
             ),
-            Part::Results | Part::Marks | Part::Queue | Part::Places => Form::Number(
-                LONGEST_TABLE as u64,
-            ),
+            Part::Results | Part::Marks | Part::Queue => Form::Number(LONGEST_TABLE as u64),
             Part::Path => Form::Path,
             Part::File => Form::Number(LONGEST_TABLE as u64),
             Part::Id | Part::Tree => Form::Id,
@@ -121,7 +117,7 @@ impl fmt::Display for ParseError {
             ParseError::NotText => f.write_str("the line is not UTF-8 text"),
             ParseError::TooLong => write!(f, "the line is longer than {LONGEST_LINE} bytes"),
             ParseError::UnknownRequest => f.write_str(
-                "word 1 is not open, add, find, show, contains, ahead-behind, merge-bases, write or load",
+                "word 1 is not open, add, find, show, contains, ahead-behind, merge-bases or write",
             ),
             ParseError::Missing(part) => {
                 let name = part.name();

@@ -62,13 +62,6 @@ pub struct Writing {
     pub length: Option<usize>,
 }
 
-// The file that is to be loaded.
-#[derive(Drop)]
-pub struct Loading {
-    pub path: String,
-    pub lengths: Lengths,
-}
-
 #[derive(Drop)]
 pub enum Request {
     // a blank line or a comment
@@ -81,5 +74,4 @@ pub enum Request {
     AheadBehind(TwoCommits),
     MergeBases(TwoCommits),
     Write(Writing),
-    Load(Loading),
 }

@@ -2,7 +2,6 @@
 use crate::hex::object_id;
 use crate::kind::Kind;
 use crate::lengths::Lengths;
-use crate::lent::Lent;
 use crate::numbers::{number, short_number, table_length};
 use crate::options::Options;
 use crate::parse_error::{ParseError, Part};
@@ -93,7 +92,7 @@ impl<'a> Words<'a> {
     pub fn tips(self, heap: Global) -> Result<(Vec<u32>, Lengths), ParseError> {
         let mut place = self.taken;
         let mut tips = Vec::new(heap);
-        let mut options = Options::none(Lent::WalkWithResults);
+        let mut options = Options::none(true);
         for word in self.rest {
             place = place.saturating_add(1);
             if options.is_empty && !word.contains('=') {
@@ -109,9 +108,9 @@ impl<'a> Words<'a> {
     }
 
     // The options, which are all the words that are left.
-    pub fn options(self, lent: Lent) -> Result<Lengths, ParseError> {
+    pub fn options(self, has_results: bool) -> Result<Lengths, ParseError> {
         let mut place = self.taken;
-        let mut options = Options::none(lent);
+        let mut options = Options::none(has_results);
         for word in self.rest {
             place = place.saturating_add(1);
             options = options.with(word, place)?;

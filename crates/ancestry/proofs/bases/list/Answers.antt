@@ -35,7 +35,7 @@ loop-number-preserved g c =
     let step = c.in-Some.ensures.step in (
       c.in-Some.ensures.tidy,
       subst (λ l. Listing h c.args.a c.args.b c.advance.new.marks l c.args.results.now c.loop-number.results c.loop-number.found) (sym step.lower)
-          (listing_same h (graph_falling b) c.args.a c.args.b c.args.results.now _ _ _ _ _ _ step inv.0.bound _ _ inv.1 c.in-default-paint.not-Both),
+          (listing_same h (graph_falling b) c.args.a c.args.b c.args.results.now _ _ _ _ _ _ step inv.0.bound _ _ inv.1 c.in_default-paint.not-Both),
       omega (arith, step.lower, step.under),
     )
 
@@ -43,7 +43,7 @@ pub returns : goal.returns
 returns g c =
     let b = c.args.graph.now in
     let h = history b in
-    let idle = c.in-default.ensures.step in
+    let idle = c.in_default.ensures.step in
     listing_ends h (graph_falling b) c.args.a c.args.b c.args.results.now c.advance.new.marks c.advance.new.queue c.advance.new.front
-    c.in-default.ensures.tidy idle.2 c.loop-number.results c.loop-number.found
+    c.in_default.ensures.tidy idle.2 c.loop-number.results c.loop-number.found
     (subst₂ (λ m f. Listing h c.args.a c.args.b m f.low c.args.results.now c.loop-number.results c.loop-number.found) (sym idle.0) (sym idle.1) c.loop-number.invariant.1)

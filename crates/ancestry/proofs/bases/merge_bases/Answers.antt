@@ -34,14 +34,14 @@ returns g c =
     let top = max c.args.a c.args.b in
     let none : Option Refusal = None in
     let due : (n : ℕ) → n ≡ b.count → none ≡ refusal n top = λ n e.
-    c.in-default.ensures ∙ ap₂ refusal (c.held.ensures ∙ sym e) c.max-top.ensures in
+    c.in_default.ensures ∙ ap₂ refusal (c.held.ensures ∙ sym e) c.max-top.ensures in
     let found = c.listed-found.ensures.bases in
     record {
       answer = λ m s.
           subst (λ o. Merged m.commits c.args.a c.args.b o results results' c.reply.result)
           (due (length m.commits) (represented_length g.K.LabelKind.start g.K.LabelKind.grown m b s)) (
             found.0,
-            subst (λ h. Bases h c.args.a c.args.b 0 found.0) s.filled.commits found.1,
+            subst (λ h. Bases h c.args.a c.args.b 0 found.0) s.commits found.1,
             found.2,
             c.reply.ensures ∙ ap₂ counted_reply (search rules) found.3,
           );

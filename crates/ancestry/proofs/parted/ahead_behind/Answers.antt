@@ -22,8 +22,8 @@ returns g c =
     let queue = length c.args.queue.now in
     record {
       refusal = λ m s.
-          c.in-default.ensures
+          c.in_default.ensures
           ∙ ap₂ (λ n t. walk_refusal n t marks queue) (c.held.ensures ∙ sym (represented_length g.K.LabelKind.start g.K.LabelKind.grown m c.args.graph.now s)) c.max-top.ensures;
-      answer = λ m s. subst (λ h. Parted h c.args.a c.args.b c.parted.result.0 c.parted.result.1) s.filled.commits c.parted.ensures.counts;
+      answer = λ m s. subst (λ h. Parted h c.args.a c.args.b c.parted.result.0 c.parted.result.1) s.commits c.parted.ensures.counts;
       buffers = subst (λ t. Cleared (t + 1) c.args.marks.now c.parted.new.marks c.args.queue.now c.parted.new.queue) c.max-top.ensures c.parted.ensures.cleared;
     }

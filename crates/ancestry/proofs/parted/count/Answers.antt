@@ -50,7 +50,7 @@ loop-paint-preserved g c =
     let step = c.in-Some.ensures.step in (
       c.in-Some.ensures.tidy,
       subst (λ l. Counting h c.args.a c.args.b c.advance.new.marks l c.loop-paint.ahead c.loop-paint.behind) (sym step.lower)
-          (counting_else h (graph_falling b) c.args.a c.args.b _ _ _ _ _ _ step inv.0.bound _ _ inv.1 c.in-default-paint.not-Left c.in-default-paint.not-Right),
+          (counting_else h (graph_falling b) c.args.a c.args.b _ _ _ _ _ _ step inv.0.bound _ _ inv.1 c.in_default-paint.not-Left c.in_default-paint.not-Right),
       omega (arith, step.lower, step.under),
       omega (arith, step.lower, step.under),
     )
@@ -59,7 +59,7 @@ pub returns : goal.returns
 returns g c =
     let b = c.args.graph.now in
     let inv = c.loop-paint.invariant in
-    let idle = c.in-default.ensures.step in
-    counting_ends (history b) (graph_falling b) c.args.a c.args.b c.advance.new.marks c.advance.new.queue c.advance.new.front c.in-default.ensures.tidy idle.2
+    let idle = c.in_default.ensures.step in
+    counting_ends (history b) (graph_falling b) c.args.a c.args.b c.advance.new.marks c.advance.new.queue c.advance.new.front c.in_default.ensures.tidy idle.2
     c.loop-paint.ahead c.loop-paint.behind
     (subst₂ (λ m f. Counting (history b) c.args.a c.args.b m f.low c.loop-paint.ahead c.loop-paint.behind) (sym idle.0) (sym idle.1) inv.1)

@@ -11,7 +11,7 @@ pub bounds-marks-next : goal.bounds-marks-next
 bounds-marks-next g c =
     let tidy = c.requires.tidy in
     let front = c.args.front.now in
-    let under = taken_under c.args.marks.now c.args.queue.now front tidy c.take-out.new.queue front c.in-Some.next.number c.in-Some.ensures.cases (search rules) in
+    let under = taken_under c.args.marks.now c.args.queue.now front tidy c.take_out.new.queue front c.in-Some.next.number c.in-Some.ensures.cases (search rules) in
     omega (arith, tidy.bound, under)
 
 pub leave-requires : goal.leave-requires
@@ -21,7 +21,7 @@ leave-requires g c =
     let front = c.args.front.now in
     let tidy = c.requires.tidy in
     let n = c.in-Some.next.number in
-    let under = taken_under marks queue front tidy c.take-out.new.queue front n c.in-Some.ensures.cases (search rules) in
+    let under = taken_under marks queue front tidy c.take_out.new.queue front n c.in-Some.ensures.cases (search rules) in
     let is = c.of-paint.ensures in
     record {
       left = subst (λ p. is_left p ≤ front.left) (sym is) (left_leaves marks queue front tidy n under);
@@ -29,11 +29,11 @@ leave-requires g c =
       both = subst (λ p. is_both p ≤ front.both) (sym is) (both_leaves marks queue front tidy n under);
     }
 
-pub parents-at-parents-requires : goal.parents-at-parents-requires
-parents-at-parents-requires g c =
+pub parents_at-parents-requires : goal.parents_at-parents-requires
+parents_at-parents-requires g c =
     let tidy = c.requires.tidy in
     let front = c.args.front.now in
-    let under = taken_under c.args.marks.now c.args.queue.now front tidy c.take-out.new.queue front c.in-Some.next.number c.in-Some.ensures.cases (search rules) in
+    let under = taken_under c.args.marks.now c.args.queue.now front tidy c.take_out.new.queue front c.in-Some.next.number c.in-Some.ensures.cases (search rules) in
     omega (arith, tidy.bound, c.requires.held, under)
 
 pub spread-requires : goal.spread-requires
@@ -46,20 +46,20 @@ spread-requires g c =
     let taken = c.in-Some.ensures.cases in
     let gone = c.leave.ensures in
     let is = c.of-paint.ensures in
-    let listed = c.parents-at-parents.ensures in
+    let listed = c.parents_at-parents.ensures in
     record {
-      tidy = tidy_taken marks queue front tidy c.take-out.new.queue c.leave.new.self n taken (search rules)
+      tidy = tidy_taken marks queue front tidy c.take_out.new.queue c.leave.new.self n taken (search rules)
           (ap (λ q. q.count) gone) (ap (λ q. q.low) gone) (ap (λ q. q.left) gone ∙ ap (λ p. front.left - is_left p) is)
           (ap (λ q. q.right) gone ∙ ap (λ p. front.right - is_right p) is) (ap (λ q. q.both) gone ∙ ap (λ p. front.both - is_both p) is);
       under = λ i lt.
           let low = ap (λ q. q.low) gone in
-          let falls = graph_falling c.args.graph.now n (get_or c.parents-at-parents.result.now i 0)
+          let falls = graph_falling c.args.graph.now n (get_or c.parents_at-parents.result.now i 0)
           (i, omega (arith, ap length listed), sym (ap (λ l. get_or l i 0) listed)) in
           omega arith;
       paints = λ e.
           passed_painted c.of-paint.result
-          (λ clear. taken_painted marks queue front tidy c.take-out.new.queue front n taken (search rules) (clear_zero (get_or marks n 0) (sym is ∙ clear)))
-          (sym c.passed-on.ensures ∙ e);
+          (λ clear. taken_painted marks queue front tidy c.take_out.new.queue front n taken (search rules) (clear_zero (get_or marks n 0) (sym is ∙ clear)))
+          (sym c.passed_on.ensures ∙ e);
     }
 
 pub returns : goal.returns
@@ -70,7 +70,7 @@ returns g c =
     let tidy = c.requires.tidy in
     let n = c.in-Some.next.number in
     let taken = c.in-Some.ensures.cases in
-    let queue' = c.take-out.new.queue in
+    let queue' = c.take_out.new.queue in
     record {
       tidy = c.spread.ensures.tidy;
       step = record {
@@ -79,7 +79,7 @@ returns g c =
         skipped = taken_skips marks queue front tidy queue' front n taken (search rules);
         bears = c.of-paint.ensures;
         lower = c.spread.ensures.low ∙ ap (λ q. q.low) c.leave.ensures;
-        spread = c.spread.ensures.laid ∙ ap (λ p. all_laid p marks c.parents-at-parents.result.now) c.passed-on.ensures
-            ∙ ap (all_laid (passed c.of-paint.result) marks) c.parents-at-parents.ensures;
+        spread = c.spread.ensures.laid ∙ ap (λ p. all_laid p marks c.parents_at-parents.result.now) c.passed_on.ensures
+            ∙ ap (all_laid (passed c.of-paint.result) marks) c.parents_at-parents.ensures;
       };
     }

@@ -83,8 +83,8 @@ returns-in-Clear c =
       laid = marked;
     }
 
-pub returns-in-default : goal.returns-in-default
-returns-in-default c =
+pub returns-in_default : goal.returns-in_default
+returns-in_default c =
     let marks = c.args.marks.now in
     let queue = c.args.queue.now in
     let front = c.args.front.now in
@@ -98,7 +98,7 @@ returns-in-default c =
     ap (λ j. record { count = j; low = new.low; left = new.left; right = new.right; both = new.both }) (sym (add-zero new.count)) in
     record {
       tidy = subst₂ (λ m f. Tidy m queue f) (sym marked) (sym (same ∙ e))
-          (lay_again marks queue front c.requires.tidy n c.requires.under c.args.arriving c.requires.paints (λ q. c.in-default.not-Clear (is ∙ q)));
+          (lay_again marks queue front c.requires.tidy n c.requires.under c.args.arriving c.requires.paints (λ q. c.in_default.not-Clear (is ∙ q)));
       low = ap (λ q. q.low) c.enter.ensures ∙ ap (λ q. q.low) c.leave.ensures;
       laid = marked;
     }

@@ -7,31 +7,31 @@ use Rattle.containment.proofs.Covers.{graph_covers}
 use Rattle.containment.proofs.Tops.{top_target, top_tip}
 use Rattle.containment.proofs.question.contains.Goals as goal
 
-pub returns-in-err-size : goal.returns-in-err-size
-returns-in-err-size g c =
+pub returns-in_err-size : goal.returns-in_err-size
+returns-in_err-size g c =
     let k = g.K.LabelKind in
-    let p = err_from_is_err_and c.from-residual.result c.from-residual.ensures.1 in
+    let p = err_from_is_err_and c.from_residual.result c.from_residual.ensures.1 in
     rw (p.1, p.2)
     record {
       refusal = λ m s.
           represented_refusal k.start k.grown k.allows (k.start 0 0) m c.args.graph.now s _ c.held.result c.args.target c.args.tips.now
-          (length c.args.results.now) (length c.args.marks.now) (length c.args.queue.now) c.held.ensures c.in-err-size.ensures.refusal;
+          (length c.args.results.now) (length c.args.marks.now) (length c.args.queue.now) c.held.ensures c.in_err-size.ensures.refusal;
       answer = λ m s. tt;
       untouched = (refl, refl, refl);
     }
 
 pub answer-requires : goal.answer-requires
 answer-requires g c =
-    let r = c.in-ok-size.ensures.roomy in
+    let r = c.in_ok-size.ensures.roomy in
     let tips = c.args.tips.now in
     let t = c.args.target in
-    let marks = part_length c.in-ok-size.size c.args.marks.now r.marked in
-    let queue = part_length c.in-ok-size.size c.args.queue.now r.queued in
+    let marks = part_length c.in_ok-size.size c.args.marks.now r.marked in
+    let queue = part_length c.in_ok-size.size c.args.queue.now r.queued in
     record {
       held = omega (arith, marks, r.held, c.held.ensures);
       told = part_length (length tips) c.args.results.now r.told;
       room = queue ∙ sym marks;
-      target-within = omega (arith, marks, r.sized, top_target t tips);
+      target_within = omega (arith, marks, r.sized, top_target t tips);
       within = λ i l. omega (arith, marks, r.sized, top_tip t tips i l);
     }
 
@@ -46,14 +46,14 @@ returns g c =
     let results = c.args.results.now in
     let marks = c.args.marks.now in
     let queue = c.args.queue.now in
-    let size = c.in-ok-size.size in
-    let r = c.in-ok-size.ensures.roomy in
+    let size = c.in_ok-size.size in
+    let r = c.in_ok-size.ensures.roomy in
     let a = c.answer in
     let long = part_length size marks r.marked in
     record {
       refusal = λ m s.
           represented_refusal k.start k.grown k.allows (k.start 0 0) m b s _ c.held.result t tips (length results) (length marks) (length queue)
-          c.held.ensures c.in-ok-size.ensures.refusal;
+          c.held.ensures c.in_ok-size.ensures.refusal;
       answer = λ m s.
           represented k.start k.grown k.allows (k.start 0 0) m b s t tips
           (contained (history b) _ t tips results marks queue c.held.result size r a.new.results a.new.marks a.new.queue a.result _ long

@@ -3,8 +3,8 @@ use Rattle.std.proofs.lemmas.List.{take_all}
 use Rattle.containment.proofs.Counts.{ones, ones_more, ones_few}
 use Rattle.containment.proofs.tell.visits.Goals as goal
 
-pub with-visit-visits-requires : goal.with-visit-visits-requires
-with-visit-visits-requires c = omega (arith, ones_few c.args.marks.now c.loop-mark.mark-index (omega arith))
+pub with_visit-visits-requires : goal.with_visit-visits-requires
+with_visit-visits-requires c = omega (arith, ones_few c.args.marks.now c.loop-mark.mark-index (omega arith))
 
 pub loop-mark-preserved : goal.loop-mark-preserved
 loop-mark-preserved c = omega (arith, ones_more c.args.marks.now c.loop-mark.mark-index (omega arith))

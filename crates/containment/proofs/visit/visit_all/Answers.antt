@@ -7,7 +7,7 @@ visit-waiting-requires g c =
     let p = get_or c.args.numbers.now c.loop-number.number-index 0 in
     let low : p < length c.args.marks.now = c.requires.within c.loop-number.number-index c.loop-number-test.true in
     record {
-      target-held = c.requires.target-held;
+      target_held = c.requires.target_held;
       held = omega (arith, c.requires.held);
       within = omega (arith, c.loop-number.auto.marks);
       room = room_left c.loop-number.marks c.loop-number.queue c.loop-number.waiting c.loop-number.invariant.waits p (omega (arith, c.loop-number.auto.marks));

@@ -4,8 +4,8 @@ use Rattle.std.proofs.lemmas.List.{take-set}
 use Rattle.frontier.proofs.Fronts.{queued_front, put_holds}
 use Rattle.frontier.proofs.heap.put_last.Goals as goal
 
-pub sift-up-requires : goal.sift-up-requires
-sift-up-requires g c =
+pub sift_up-requires : goal.sift_up-requires
+sift_up-requires g c =
     let xs = c.args.heap.now in
     let ys = c.write.new.s in
     let last = c.args.last in
@@ -14,8 +14,8 @@ sift-up-requires g c =
 
 pub returns : goal.returns
 returns g c =
-    let zs = c.sift-up.new.heap in record {
-      queued = c.sift-up.ensures.queued;
+    let zs = c.sift_up.new.heap in record {
+      queued = c.sift_up.ensures.queued;
       holds = put_holds c.args.x c.args.heap.now zs c.args.last c.requires.filled
-          (subst (λ ys. IsPermutation ys zs) c.write.ensures c.sift-up.ensures.shuffled);
+          (subst (λ ys. IsPermutation ys zs) c.write.ensures c.sift_up.ensures.shuffled);
     }

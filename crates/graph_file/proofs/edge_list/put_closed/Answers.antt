@@ -14,8 +14,8 @@ loop-k-preserved g c = λ h order s.
     let k = c.loop-k.k in
     let words = closed order c.args.rest.now in
     part_grows word c.args.buffer.now c.loop-k.buffer at 4 k words 0 (λ _ _. refl)
-    c.put-word.new.buffer (at + 4 * k) (word c.edge-word.result) (omega (arith, length_closed order c.args.rest.now)) (c.loop-k.invariant h order s) c.put-word.ensures
-    (ap word (c.edge-word.ensures h order s)) (omega arith) (omega arith)
+    c.put_word.new.buffer (at + 4 * k) (word c.edge_word.result) (omega (arith, length_closed order c.args.rest.now)) (c.loop-k.invariant h order s) c.put_word.ensures
+    (ap word (c.edge_word.ensures h order s)) (omega arith) (omega arith)
 
 pub returns : goal.returns
 returns g c = λ h order s.

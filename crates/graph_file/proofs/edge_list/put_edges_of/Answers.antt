@@ -5,8 +5,8 @@ use Rattle.graph_file.proofs.EdgeWords.{edges_many, edges_none, extra_many, rest
 use Rattle.graph_file.proofs.Placed.{placed_none}
 use Rattle.graph_file.proofs.edge_list.put_edges_of.Goals as goal
 
-pub put-closed-requires : goal.put-closed-requires
-put-closed-requires g c =
+pub put_closed-requires : goal.put_closed-requires
+put_closed-requires g c =
     let ps = c.args.parents.now in
     record {
       held = rest_held ps c.args.graph.now.count c.requires.held;
@@ -15,7 +15,7 @@ put-closed-requires g c =
 
 pub returns-then-parents-gt2 : goal.returns-then-parents-gt2
 returns-then-parents-gt2 g c = λ h order s.
-    c.put-closed.ensures h order s
+    c.put_closed.ensures h order s
     ∙ ap (λ w. placed c.args.buffer.now c.args.at (edge_bytes w)) (sym (edges_many order c.args.parents.now c.if-parents-gt2.true))
 
 pub returns-else-parents-gt2 : goal.returns-else-parents-gt2

@@ -9,17 +9,17 @@ loop-count-preserved g c = (
   omega (arith, c.held.ensures, c.loop-count-test.true),
   λ h order s low.
       low_more (ids_of h order) c.args.byte c.loop-count.count
-      (omega (arith, c.first-byte.ensures h order s, c.if-byte-first-byte.false)) (c.loop-count.invariant.1 h order s low),
+      (omega (arith, c.first_byte.ensures h order s, c.if-byte-first_byte.false)) (c.loop-count.invariant.1 h order s low),
 )
 
-pub returns-then-byte-first-byte : goal.returns-then-byte-first-byte
-returns-then-byte-first-byte g c =
+pub returns-then-byte-first_byte : goal.returns-then-byte-first_byte
+returns-then-byte-first_byte g c =
     record {
       within = omega arith;
       counted = λ h order s low.
           counted_to (ids_of h order) c.args.byte c.loop-count.count
           (omega (arith, ids_length c.args.graph.now h order s, c.held.ensures, c.loop-count-test.true))
-          (omega (arith, c.first-byte.ensures h order s, c.if-byte-first-byte.true))
+          (omega (arith, c.first_byte.ensures h order s, c.if-byte-first_byte.true))
           (ids_rising h order s.ordered) (c.loop-count.invariant.1 h order s low);
     }
 

@@ -12,14 +12,14 @@ pub loop-byte-preserved : goal.loop-byte-preserved
 loop-byte-preserved g c =
     let byte = c.loop-byte.byte in
     let at = c.args.at in
-    let count = c.ids-up-to-count in (
+    let count = c.ids_up_to-count in (
       count.ensures.within,
       λ h order s.
           let ids = ids_of h order in
           let inv = c.loop-byte.invariant.1 h order s in
           let counted = count.ensures.counted h order s inv.0 in (
             low_next ids byte count.result counted.0,
-            fans_grow ids c.args.buffer.now c.loop-byte.buffer at byte c.put-word.new.buffer (at + 4 * byte) count.result inv.1 counted.1 c.put-word.ensures (omega arith) (omega arith),
+            fans_grow ids c.args.buffer.now c.loop-byte.buffer at byte c.put_word.new.buffer (at + 4 * byte) count.result inv.1 counted.1 c.put_word.ensures (omega arith) (omega arith),
           ),
     )
 

@@ -5,5 +5,5 @@ use Rattle.graph_file.proofs.front.put_entry.Goals as goal
 
 pub returns : goal.returns
 returns c =
-    placed_next c.args.buffer.now c.put-bytes.new.buffer c.put-long.new.buffer c.args.at (c.args.at + 4) c.args.name.now (long_word c.args.place)
-    c.put-bytes.ensures c.put-long.ensures (omega arith) (omega arith)
+    placed_next c.args.buffer.now c.put_bytes.new.buffer c.put_long.new.buffer c.args.at (c.args.at + 4) c.args.name.now (long_word c.args.place)
+    c.put_bytes.ensures c.put_long.ensures (omega arith) (omega arith)

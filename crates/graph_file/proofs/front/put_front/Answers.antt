@@ -5,5 +5,5 @@ use Rattle.graph_file.proofs.front.put_front.Goals as goal
 
 pub returns : goal.returns
 returns c = λ l s.
-    placed_next c.args.buffer.now c.put-header.new.buffer c.put-contents.new.buffer 0 8 (header l.edges) (contents l)
-    (c.put-header.ensures l.edges s.words) (c.put-contents.ensures l s) refl (omega arith)
+    placed_next c.args.buffer.now c.put_header.new.buffer c.put_contents.new.buffer 0 8 (header l.edges) (contents l)
+    (c.put_header.ensures l.edges s.words) (c.put_contents.ensures l s) refl (omega arith)

@@ -4,4 +4,4 @@ use Rattle.graph_file.proofs.parent_words.edge_word.Goals as goal
 
 pub returns : goal.returns
 returns g c = λ h order s.
-    ap₂ (λ x y. x + y) c.edge-mark.ensures (c.position-of.ensures.value h order s) ∙ sym (closed_at order c.args.rest.now c.args.k c.requires.within)
+    ap₂ (λ x y. x + y) c.edge_mark.ensures (c.position_of.ensures.value h order s) ∙ sym (closed_at order c.args.rest.now c.args.k c.requires.within)

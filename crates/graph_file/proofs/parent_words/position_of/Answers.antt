@@ -11,5 +11,5 @@ returns g c =
       within = omega (arith, c.place.ensures.within, b.few);
       value = λ h order s.
           place_is_position b h order s c.args.number place c.requires c.place.ensures.within
-          (subst (λ r. Splits b.rows.items.now b.order.items.now b.count r.id.bytes place place) c.row-at.ensures (c.place.ensures.splits s.rising));
+          (subst (λ r. Splits b.rows.items.now b.order.items.now b.count r.id.bytes place place) c.row_at.ensures (c.place.ensures.splits s.rising));
     }

@@ -6,4 +6,4 @@ pub returns : goal.returns
 returns c =
     let at = c.args.at in
     let bytes = c.args.bytes.now in
-    placed_part c.args.buffer.now at (at + length bytes - at) bytes c.copy-from-slice.new.self c.copy-from-slice.ensures.after (omega arith)
+    placed_part c.args.buffer.now at (at + length bytes - at) bytes c.copy_from_slice.new.self c.copy_from_slice.ensures.after (omega arith)

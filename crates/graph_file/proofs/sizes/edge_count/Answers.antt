@@ -9,13 +9,13 @@ pub loop-place-preserved : goal.loop-place-preserved
 loop-place-preserved g c =
     let b = c.args.graph.now in
     let place = c.loop-place.place in
-    let number = c.number-at-number.result in
+    let number = c.number_at-number.result in
     let lt : place < b.count = omega (arith, c.loop-place-test.true, c.held-place-end.ensures) in
     let ps = c.parents_at.result.now in
     let its = c.parents_at.ensures in
-    let few = next_few b place number ps c.number-at-number.ensures.held its in
-    let more = next_extras b place number ps c.number-at-number.ensures.held its lt c.number-at-number.ensures.value in
-    let words = c.extra-edges-total.ensures in
+    let few = next_few b place number ps c.number_at-number.ensures.held its in
+    let more = next_extras b place number ps c.number_at-number.ensures.held its lt c.number_at-number.ensures.value in
+    let words = c.extra_edges-total.ensures in
     (omega (arith, words, more, c.loop-place.invariant.0), omega (arith, words, few, c.loop-place.invariant.1), omega arith)
 
 pub returns : goal.returns

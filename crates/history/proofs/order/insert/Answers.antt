@@ -1,4 +1,4 @@
-use Rattle.std.proofs.Common.{◌+◌, ◌<◌, length, get_or, sym, refl, ap, ◌∙◌, arith}
+use Rattle.std.proofs.Common.{◌+◌, ◌<◌, length, sym, refl, ◌∙◌, arith}
 use Rattle.std.proofs.lemmas.List.{get_or-set_other, drop-set-lt}
 use Rattle.history.proofs.Lists.{shifted_below, shifted_at, shifted_above, shifted_more}
 use Rattle.history.proofs.order.insert.Goals as goal

@@ -7,4 +7,4 @@ returns g c =
     let ys = c.args.list.now in
     let n = length ys in
     let from = c.args.from in
-    put_mid-paste from (from + n - from) c.args.s.now c.copy-from-slice.new.self ys n c.copy-from-slice.ensures.after (omega arith) refl
+    put_mid-paste from (from + n - from) c.args.s.now c.copy_from_slice.new.self ys n c.copy_from_slice.ensures.after (omega arith) refl

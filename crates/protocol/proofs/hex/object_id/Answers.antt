@@ -4,8 +4,8 @@ use Rattle.protocol.proofs.hex.object_id.Goals as goal
 -- two digits more are hex, and one byte more is what they say
 pub loop-k-preserved : goal.loop-k-preserved
 loop-k-preserved c =
-    let high = c.in-ok-high.ensures in
-    let low = c.in-ok-low.ensures in
+    let high = c.in_ok-high.ensures in
+    let low = c.in_ok-low.ensures in
     let room : c.loop-k.k < length c.loop-k.bytes = omega (arith, c.loop-k.invariant.0) in (
       rw length-set c.loop-k.invariant.0,
       λ i h. below_more _ _

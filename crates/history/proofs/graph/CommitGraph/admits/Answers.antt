@@ -9,35 +9,35 @@ use Rattle.history.proofs.graph.CommitGraph.admits.Goals as goal
 abbrev new : List ℕ → List ℕ → ℕ → List ℕ → Commit
 new id tree date parents = record { id = id; tree = tree; date = date; parents = parents }
 
-pub returns-then-not-all-held : goal.returns-then-not-all-held
-returns-then-not-all-held g c = record {
+pub returns-then-not-all_held : goal.returns-then-not-all_held
+returns-then-not-all_held g c = record {
   refusal = λ m tree s.
-      refused_not_held s (new c.args.id.bytes tree c.args.date c.args.parents.now) c.if-date-gt-LATEST-DATE.false c.if-parents-gt-MOST-PARENTS.false
-      c.if-not-all-held.ensures;
+      refused_not_held s (new c.args.id.bytes tree c.args.date c.args.parents.now) c.if-date-gt-LATEST_DATE.false c.if-parents-gt-MOST_PARENTS.false
+      c.if-not-all_held.ensures;
   fits = λ e. absurd (both_ways false refl e);
 }
 
 pub returns-in-Some : goal.returns-in-Some
 returns-in-Some g c = record {
   refusal = λ m tree s.
-      refused_id_held s (new c.args.id.bytes tree c.args.date c.args.parents.now) c.if-date-gt-LATEST-DATE.false c.if-parents-gt-MOST-PARENTS.false
-      c.if-not-all-held.ensures (c.in-Some.ensures m s);
+      refused_id_held s (new c.args.id.bytes tree c.args.date c.args.parents.now) c.if-date-gt-LATEST_DATE.false c.if-parents-gt-MOST_PARENTS.false
+      c.if-not-all_held.ensures (c.in-Some.ensures m s);
   fits = λ e. absurd (both_ways false refl e);
 }
 
 pub returns-then-self-capacity : goal.returns-then-self-capacity
 returns-then-self-capacity g c = record {
   refusal = λ m tree s.
-      refused_capacity s (new c.args.id.bytes tree c.args.date c.args.parents.now) c.if-date-gt-LATEST-DATE.false c.if-parents-gt-MOST-PARENTS.false
-      c.if-not-all-held.ensures (c.in-default.ensures m s) (omega (arith, c.capacity.ensures));
+      refused_capacity s (new c.args.id.bytes tree c.args.date c.args.parents.now) c.if-date-gt-LATEST_DATE.false c.if-parents-gt-MOST_PARENTS.false
+      c.if-not-all_held.ensures (c.in_default.ensures m s) (omega (arith, c.capacity.ensures));
   fits = λ e. absurd (both_ways false refl e);
 }
 
 pub returns-then-self-parents : goal.returns-then-self-parents
 returns-then-self-parents g c = record {
   refusal = λ m tree s.
-      refused_parent_capacity s (new c.args.id.bytes tree c.args.date c.args.parents.now) c.if-date-gt-LATEST-DATE.false c.if-parents-gt-MOST-PARENTS.false
-      c.if-not-all-held.ensures (c.in-default.ensures m s) (omega (arith, c.capacity.ensures)) (omega (arith, c.parent_capacity.ensures));
+      refused_parent_capacity s (new c.args.id.bytes tree c.args.date c.args.parents.now) c.if-date-gt-LATEST_DATE.false c.if-parents-gt-MOST_PARENTS.false
+      c.if-not-all_held.ensures (c.in_default.ensures m s) (omega (arith, c.capacity.ensures)) (omega (arith, c.parent_capacity.ensures));
   fits = λ e. absurd (both_ways false refl e);
 }
 
@@ -46,12 +46,12 @@ returns g c =
     let room : c.args.self.now.count < capacity c.args.self.now = omega (arith, c.capacity.ensures) in
     record {
       refusal = λ m tree s.
-          not_refused s (new c.args.id.bytes tree c.args.date c.args.parents.now) c.if-date-gt-LATEST-DATE.false c.if-parents-gt-MOST-PARENTS.false
-          c.if-not-all-held.ensures (c.in-default.ensures m s) room (omega (arith, c.parent_capacity.ensures));
+          not_refused s (new c.args.id.bytes tree c.args.date c.args.parents.now) c.if-date-gt-LATEST_DATE.false c.if-parents-gt-MOST_PARENTS.false
+          c.if-not-all_held.ensures (c.in_default.ensures m s) room (omega (arith, c.parent_capacity.ensures));
       fits = λ e. record {
-        dated = c.if-date-gt-LATEST-DATE.false;
-        few = c.if-parents-gt-MOST-PARENTS.false;
-        held = all_below_each c.args.parents.now c.args.self.now.count (sym c.if-not-all-held.ensures);
+        dated = c.if-date-gt-LATEST_DATE.false;
+        few = c.if-parents-gt-MOST_PARENTS.false;
+        held = all_below_each c.args.parents.now c.args.self.now.count (sym c.if-not-all_held.ensures);
         room = room;
         parent_room = omega (arith, c.parent_capacity.ensures);
       };

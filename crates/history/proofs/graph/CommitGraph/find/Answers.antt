@@ -1,5 +1,6 @@
 use Rattle.std.proofs.Common.{◌≡◌, ℕ, ◌<◌, true, not, ◌&&◌, ltb, List, get_or, sym, ap, ◌∙◌, ⊎_elim, arith}
 use Rattle.std.proofs.lemmas.Bool.{and_parts, and_cases, not-true, not-false, ltb-true, lt-ltb, both_ways}
+use Rattle.labels.specs.declared.kind.LabelKind.{Ghosts}
 use Rattle.history.specs.declared.graph.CommitGraph.{CommitGraph}
 use Rattle.history.specs.Graph.{Represents}
 use Rattle.history.specs.Ids.{precedes}
@@ -12,7 +13,7 @@ use Rattle.history.proofs.Ids.{neither_precedes}
 use Rattle.history.proofs.graph.CommitGraph.find.Goals as goal
 
 -- an id that is not at its place is the id of no commit
-absent : {K L : Type 0} (start : ℕ → ℕ → L) (grown : L → L → L) (m : Model) (g : CommitGraph K L) (s : Represents start grown m g) (id : List ℕ) (place : ℕ) →
+absent : {K L : Type 0} {kind : Ghosts K L} (start : ℕ → ℕ → L) (grown : L → L → L) (m : Model) (g : CommitGraph K L kind) (s : Represents start grown m g) (id : List ℕ) (place : ℕ) →
     Splits g.rows.items.now g.order.items.now g.count id place place →
     (place < g.count → precedes id (row_of g.rows.items.now (get_or g.order.items.now place 0)).id.bytes ≡ true) → Absent m.commits id
 absent start grown m g s id place splits there a lt e =
@@ -52,4 +53,4 @@ returns g c = λ m s.
     let long = represented_length k.start k.grown m b s in
     let held = b.within place lt in
     let is = neither_precedes row.id.bytes id ((c.place-place.ensures.splits s.rising).after place (omega arith) lt) (not-true before there.1) in
-    sym (found_one m.commits number id s.filled.wellformed (omega arith) (ap (λ x. x.id) (represented_at k.start k.grown m b s number held) ∙ is))
+    sym (found_one m.commits number id s.wellformed (omega arith) (ap (λ x. x.id) (represented_at k.start k.grown m b s number held) ∙ is))

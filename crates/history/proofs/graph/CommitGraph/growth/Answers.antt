@@ -1,4 +1,4 @@
-use Rattle.std.proofs.Common.{◌≡◌, ℕ, ◌+◌, ◌<◌, ◌≤◌, map, length, get_or, take, sym, refl, ap, ◌∙◌, ap₂, arith}
+use Rattle.std.proofs.Common.{map, get_or, take, sym, refl, ap, ◌∙◌, arith}
 use Rattle.std.proofs.lemmas.List.{get_or-take, length-take-le}
 use Rattle.history.specs.Generations.{above, root_date}
 use Rattle.history.specs.Tables.{no_row, row_of}
@@ -12,8 +12,8 @@ loop-p-init g c =
     let b = c.args.self.now in
     (refl, refl, c.first-label.ensures ∙ ap (λ n. k.start n c.args.date) (sym (length-take-le b.count b.labels.items.now b.labelled)), omega arith, omega arith)
 
-pub overflow-add-parent : goal.overflow-add-parent
-overflow-add-parent g c =
+pub overflow_add-parent : goal.overflow_add-parent
+overflow_add-parent g c =
     let p = get_or c.args.parents.now c.loop-p.p-index 0 in
     let low = c.requires.held c.loop-p.p-index c.loop-p-test.true in
     omega (arith, (c.args.self.now.bounded p low).0)

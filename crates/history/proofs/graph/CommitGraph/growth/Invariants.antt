@@ -1,4 +1,4 @@
-use Rattle.std.proofs.Common.{◌≡◌, ℕ, ◌+◌, ◌<◌, ◌≤◌, map, length, get_or, take}
+use Rattle.std.proofs.Common.{◌≡◌, ◌+◌, ◌≤◌, map, take}
 use Rattle.history.specs.Generations.{above, root_date}
 use Rattle.history.specs.Labels.{made}
 use Rattle.history.proofs.graph.CommitGraph.growth.Given as goal

@@ -9,5 +9,5 @@ returns-then-number-held g c = λ m s.
 pub returns : goal.returns
 returns g c = λ m s. (
   omega (arith, represented_length g.K.LabelKind.start g.K.LabelKind.grown m c.args.self.now s),
-  λ d. c.label-at.ensures d ∙ ap (λ l. get_or l c.args.number d) s.filled.labels,
+  λ d. c.label_at.ensures d ∙ ap (λ l. get_or l c.args.number d) s.labels,
 )

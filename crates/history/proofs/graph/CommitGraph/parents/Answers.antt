@@ -10,5 +10,5 @@ returns-then-number-held g c = λ m s.
 pub returns : goal.returns
 returns g c = λ m s. (
   omega (arith, represented_length g.K.LabelKind.start g.K.LabelKind.grown m c.args.self.now s),
-  c.parents_at.ensures ∙ ap (λ h. parents_of h c.args.number) s.filled.commits,
+  c.parents_at.ensures ∙ ap (λ h. parents_of h c.args.number) s.commits,
 )

@@ -1,4 +1,4 @@
-use Rattle.std.proofs.Common.{◌≡◌, ◌+◌, sym, ap, ◌∙◌, arith}
+use Rattle.std.proofs.Common.{◌+◌, sym, ap, ◌∙◌, arith}
 use Rattle.std.specs.List.{between}
 use Rattle.history.proofs.Commits.{commit_at}
 use Rattle.history.proofs.graph.CommitGraph.parents_at.Goals as goal

@@ -1,4 +1,4 @@
-use Rattle.std.proofs.Common.{◌≡◌, ℕ, ◌+◌, ◌-◌, ◌/◌, ◌<◌, ◌≤◌, sym, ◌∙◌, subst, arith}
+use Rattle.std.proofs.Common.{◌≡◌, ◌+◌, ◌-◌, ◌/◌, ◌<◌, sym, ◌∙◌, subst, arith}
 use Rattle.history.specs.Order.{Splits}
 use Rattle.history.proofs.Finding.{splits_none, splits_up, splits_down}
 use Rattle.history.proofs.graph.CommitGraph.place.Goals as goal
@@ -8,8 +8,8 @@ loop-low-init g c =
     let b = c.args.self.now in
     (omega arith, omega arith, λ rising. splits_none b.rows.items.now b.order.items.now b.count c.args.id.bytes rising)
 
-pub loop-low-preserved-then-is-before : goal.loop-low-preserved-then-is-before
-loop-low-preserved-then-is-before g c =
+pub loop-low-preserved-then-is_before : goal.loop-low-preserved-then-is_before
+loop-low-preserved-then-is_before g c =
     let b = c.args.self.now in
     let low = c.loop-low.low in
     let high = c.loop-low.high in
@@ -19,7 +19,7 @@ loop-low-preserved-then-is-before g c =
       omega arith,
       λ rising.
           splits_up b.rows.items.now b.order.items.now b.count c.args.id.bytes rising low high middle (omega arith) up (omega arith)
-          (sym c.is-before.ensures ∙ c.if-is-before.true) (c.loop-low.invariant.2 rising),
+          (sym c.is_before.ensures ∙ c.if-is_before.true) (c.loop-low.invariant.2 rising),
     )
 
 pub loop-low-preserved : goal.loop-low-preserved
@@ -33,7 +33,7 @@ loop-low-preserved g c =
       omega arith,
       λ rising.
           splits_down b.rows.items.now b.order.items.now b.count c.args.id.bytes rising low high middle (omega arith) up (omega arith)
-          (sym c.is-before.ensures ∙ c.if-is-before.false) (c.loop-low.invariant.2 rising),
+          (sym c.is_before.ensures ∙ c.if-is_before.false) (c.loop-low.invariant.2 rising),
     )
 
 pub returns : goal.returns
