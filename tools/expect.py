@@ -1,12 +1,8 @@
 #!/usr/bin/env python3
 # Works out the answers to the requests on standard input from the rules of the requests, apart from the program.
-import os
 import re
 import sys
 
-import graph_file
-
-DATA = os.path.join(os.path.dirname(os.path.abspath(__file__)), "..", "crates", "cgraph", "data")
 LATEST = 17179869183
 WORDS = {
     1: "the date is over 17179869183",
@@ -15,10 +11,9 @@ WORDS = {
     4: "the id is held already",
     5: "there is no room for one commit more",
     6: "there is no room for the parents",
-    7: "the marks, queue or places are too short",
+    7: "the marks or the queue are too short",
     8: "the list or buffer for the results is too short, %d needed",
     9: "a named commit is not held",
-    10: "the history holds a commit already",
 }
 
 
@@ -135,31 +130,6 @@ class History:
             dict(id=i, tree=tree, date=date, parents=parents, level=level, corrected=corrected, label=label)
         )
         return n
-
-    # Takes over the commits of a file: the lowest levels first, and of equal levels the first in the file.
-    def load(self, data, lengths):
-        if self.commits:
-            return refused(10)
-        try:
-            found = graph_file.decode(data)
-        except graph_file.Fault as f:
-            return "refused %d %s, layer %d place %d" % (f.cause, f.words, f.layer, f.place)
-        count = len(found)
-        if count > self.capacity:
-            return refused(5)
-        if sum(len(c["parents"]) for c in found) > self.room:
-            return refused(6)
-        if any(lengths.get(b, count) < count for b in ("queue", "places")):
-            return refused(7)
-        places = [None] * count
-        for p in sorted(range(count), key=lambda p: (found[p]["level"], p)):
-            c = found[p]
-            parents = [places[q] for q in c["parents"]]
-            assert self.refusal(c["id"], c["date"], parents) == 0
-            places[p] = self.add(c["id"], c["tree"], c["date"], parents)
-            assert self.commits[places[p]]["level"] == c["level"]
-        assert graph_file.encode(self.commits) == data
-        return " ".join(["loaded", str(count), "places"] + ([str(n) for n in places] or ["none"]))
 
     # Every commit that the commit reaches, with itself.
     def reached(self, n):
@@ -287,17 +257,6 @@ def kind_of(words):
     )
 
 
-# What the file at a path holds: one that was written before, or one that the program is run with.
-def content(state, path):
-    if path in state["written"]:
-        return state["written"][path]
-    try:
-        with open(os.path.join(DATA, path), "rb") as f:
-            return f.read()
-    except OSError:
-        raise Bad("the file cannot be read")
-
-
 def answer(state, words):
     if words[0] == "open":
         kind = kind_of(words)
@@ -333,12 +292,8 @@ def answer(state, words):
             raise Bad("the path is missing")
         room = decimal(words, 2, "the length of the buffer", 1000000) if len(words) > 2 else None
         done(words, 3)
-    elif words[0] == "load":
-        if len(words) < 2:
-            raise Bad("the path is missing")
-        lengths = options(words, 2, ["queue", "places"])
     else:
-        raise Bad("word 1 is not open, add, find, show, contains, ahead-behind, merge-bases, write or load")
+        raise Bad("word 1 is not open, add, find, show, contains, ahead-behind, merge-bases or write")
     h = state["history"]
     if h is None:
         raise Bad("no history is open")
@@ -362,13 +317,8 @@ def answer(state, words):
         if room is not None and room < length:
             return refused(8, length)
         if words[1] != "/dev/null":
-            if "/" in words[1]:
-                raise Bad("the file cannot be written")
-            state["written"][words[1]] = graph_file.encode(h.commits)
-            assert len(state["written"][words[1]]) == length
+            raise Bad("the file cannot be written")
         return "wrote %d" % length
-    if words[0] == "load":
-        return h.load(content(state, words[1]), lengths)
     if n >= len(h.commits):
         return "none"
     c = h.commits[n]
@@ -385,7 +335,7 @@ def answer(state, words):
 
 
 def main():
-    state = {"history": None, "written": {}}
+    state = {"history": None}
     for raw in sys.stdin.buffer.read().split(b"\n")[:-1]:
         try:
             try:

@@ -1,11 +1,7 @@
 #!/usr/bin/env python3
-# Writes the requests of the stored run. They name the files in crates/cgraph/data, which damage.py and git_files.sh write.
-import os
+# Writes the requests of the stored run.
 import sys
 
-from graph_file import decode
-
-DATA = os.path.join(os.path.dirname(os.path.abspath(__file__)), "..", "crates", "cgraph", "data")
 out = []
 
 
@@ -49,7 +45,6 @@ line("show 0")
 line("contains 0 0")
 line("ahead-behind 0 0")
 line("merge-bases 0 0")
-line("load seven.graph")
 line("open nothing 1 1 1 1")
 line("show 0")
 line()
@@ -372,131 +367,5 @@ line("write")
 line("write /dev/null x")
 line("write /dev/null 1000001")
 line("write /dev/null 1492 1")
-line()
-line("# Loading: files that Git wrote, questions of them, and the same files written again.")
-GIT = [
-    ("linear", "level"),
-    ("four", "interval"),
-    ("octopus", "level+interval"),
-    ("crossed", "corrected-date"),
-    ("many", "byte-level"),
-    ("dates", "corrected-date+interval"),
-]
-for name, kind in GIT:
-    with open(os.path.join(DATA, name + ".graph"), "rb") as f:
-        commits = decode(f.read())
-    count, listed = len(commits), sum(len(c["parents"]) for c in commits)
-    line("open %s %d %d %d %d" % (kind, count, count, count, listed))
-    line("load %s.graph" % name)
-    show(range(count) if count < 20 else [0, 1, 40, 41, 42])
-    for c in commits[:2] + commits[-1:]:
-        line("find " + c["id"])
-    tips = list(range(count - 4, count))
-    for target in [0, 1, count // 2]:
-        line("contains %d %s" % (target, " ".join(str(t) for t in tips)))
-    for a in tips:
-        for b in tips:
-            line("merge-bases %d %d" % (a, b))
-            line("ahead-behind %d %d" % (a, b))
-    line("write /dev/null")
-    line("write again.graph")
-    line("load again.graph")
-    line("open blank %d %d %d %d" % (count, count, count, listed))
-    line("load again.graph")
-line()
-line("# Files made by hand: no commit, one with a late date, as many parents as there can be, and the seven, which get other numbers than by adding.")
-line("open level 0 0 0 0")
-line("load empty.graph")
-line("load empty.graph queue=0 places=0")
-line("show 0")
-line("write /dev/null")
-line("open level 100 100 100 200")
-line("load root.graph")
-line("show 0")
-line("open interval 100 100 100 200")
-line("load most_parents.graph")
-show([0, 63, 64])
-line("write /dev/null")
-line("open interval 100 100 100 200")
-line("load eight.graph")
-show(range(9))
-line("write /dev/null")
-line("open level+interval 8 8 8 10")
-line("load seven.graph")
-show(range(8))
-for first, _, _ in SEVEN:
-    line("find " + oid(first))
-line("contains 2 4 5 0")
-line("merge-bases 4 5")
-line("ahead-behind 6 4")
-line("# Commits can be added to what was loaded.")
-add(oid(0x80), oid(0xA7), 150, [6])
-show([7])
-line("find " + oid(0x80))
-line("add %s %s 1 0" % (oid(0x81), oid(0xA8)))
-line("# Refusal 10: the history holds a commit, whatever the file.")
-line("load seven.graph")
-line("load empty.graph")
-line("load damaged/no_byte.graph")
-line("load seven.graph queue=0 places=0")
-line("show 8")
-line("open level 1 1 1 0")
-add(oid(1), oid(9), 7)
-line("load seven.graph")
-line("load empty.graph")
-show([0])
-line("# Refusals 5, 6 and 7: capacities and buffers, at the least that do and one below, and more than one too small.")
-for lengths in ["6 7 7 9", "7 6 7 9", "7 7 6 9", "0 0 0 0", "7 7 7 8"]:
-    line("open level " + lengths)
-    line("load seven.graph")
-    line("load seven.graph queue=0 places=0")
-    line("show 0")
-    line("find " + oid(0x10))
-line("open level 7 7 7 9")
-for short in ["queue=6", "places=6", "queue=0", "places=0", "queue=6 places=6", "places=6 queue=1000000"]:
-    line("load seven.graph " + short)
-line("show 0")
-line("load seven.graph places=7 queue=7")
-show([6])
-line("open level 7 7 7 9")
-line("load seven.graph queue=1000000 places=1000000")
-line("# Refusals 11 to 14: each damaged file; nothing changes.")
-line("open blank 7 7 7 9")
-for name in sorted(os.listdir(os.path.join(DATA, "damaged"))):
-    line("load damaged/" + name)
-line("load /dev/null")
-line("show 0")
-line("write /dev/null")
-line("# They come before the capacities and the buffers.")
-line("open blank 0 0 0 0")
-line("load damaged/level_too_low.graph queue=0 places=0")
-line("load damaged/list_without_end.graph queue=0 places=0")
-line("load seven.graph queue=0 places=0")
-line("open blank 8 8 8 9")
-line("load damaged/fan_out_last.graph")
-line("load seven.graph")
-line("# Loadings that are no requests, and files that cannot be read.")
-line("open blank 7 7 7 9")
-line("load")
-line("load nothing.graph")
-line("load damaged")
-line("load seven.graph/none")
-line("load nothing.graph marks=1")
-line("load seven.graph 7")
-line("load seven.graph marks=7")
-line("load seven.graph results=7")
-line("load seven.graph place=7")
-line("load seven.graph places")
-line("load seven.graph places=")
-line("load seven.graph places=-1")
-line("load seven.graph places=1000001")
-line("load seven.graph places=7 places=7")
-line("load seven.graph queue=7 places=7 queue=7")
-line("load seven.graph queue=x")
-line("contains 0 0 places=1")
-line("ahead-behind 0 0 places=1")
-line("merge-bases 0 0 places=1")
-line("write /dev/null places=1")
-line("load seven.graph places=007 queue=07")
 
 sys.stdout.buffer.write(b"\n".join(out) + b"\n")

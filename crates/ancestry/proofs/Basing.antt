@@ -1,11 +1,10 @@
 -- Merge bases, told by the paints. Assumes nothing.
-use Rattle.std.proofs.Common.{◌≡◌, ℕ, zero, suc, ◌+◌, ◌<◌, ◌≤◌, Bool, true, false, ◌⊎◌, List, [], ◌∷◌, ◌++◌, length, get_or, sym, refl, ap, ◌∙◌, subst, inl, inr, ⊎_elim, arith}
+use Rattle.std.proofs.Common.{◌≡◌, ℕ, ◌<◌, ◌≤◌, true, false, ◌⊎◌, List, [], ◌∷◌, ◌++◌, length, get_or, sym, refl, ap, ◌∙◌, subst, ⊎_elim, arith}
 use Rattle.std.proofs.lemmas.List.{get_or_append_left, get_or_push, length_push}
 use Rattle.std.proofs.lemmas.Bool.{both_ways, cases_Bool, cases_eq, cases_lt}
 use Rattle.history.specs.History.{Commit, Parent, Reaches}
-use Rattle.ancestry.specs.declared.paint.Paint.{Paint}
-use Rattle.ancestry.specs.declared.paint.Paint.TheVariants.{Clear, Left, Right, Both, Below}
-use Rattle.ancestry.specs.Ancestry.{Common, MergeBase, Bases}
+use Rattle.ancestry.specs.declared.paint.Paint.TheVariants.{Left, Right, Both}
+use Rattle.ancestry.specs.Ancestry.{MergeBase, Bases}
 use Rattle.ancestry.specs.Painting.{paint_at, Painting}
 use Rattle.ancestry.specs.Paints.{left, right, below}
 use Rattle.ancestry.proofs.Bits.{only_left, only_right, only_both}

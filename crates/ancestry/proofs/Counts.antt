@@ -1,12 +1,12 @@
 -- The two counts, along the walk. Assumes nothing.
-use Rattle.std.proofs.Common.{◌≡◌, ℕ, suc, ◌+◌, ◌<◌, ◌≤◌, true, ◌⊎◌, List, length, get_or, sym, refl, ap, ◌∙◌, subst, inl, inr, ⊎_elim, arith}
+use Rattle.std.proofs.Common.{◌≡◌, ℕ, suc, ◌<◌, ◌≤◌, List, length, get_or, sym, refl, ap, ◌∙◌, ⊎_elim, arith}
 use Rattle.std.proofs.lemmas.Bool.{eqb-true, and_parts}
 use Rattle.frontier.specs.declared.elements.ByNumber.{ByNumber}
 use Rattle.history.specs.Counting.{Tally}
-use Rattle.history.specs.History.{Commit, Parent, Reaches}
-use Rattle.ancestry.specs.declared.goal.Goal.TheVariants.{Counts, Bases}
+use Rattle.history.specs.History.{Commit, Parent}
+use Rattle.ancestry.specs.declared.goal.Goal.TheVariants.{Counts}
 use Rattle.ancestry.specs.declared.paint.Paint.{Paint}
-use Rattle.ancestry.specs.declared.paint.Paint.TheVariants.{Clear, Left, Right, Both, Below}
+use Rattle.ancestry.specs.declared.paint.Paint.TheVariants.{Left, Right}
 use Rattle.ancestry.specs.declared.waiting.Front.{Front}
 use Rattle.ancestry.specs.Ancestry.{Ahead, Parted}
 use Rattle.ancestry.specs.Painting.{paint_at, Painting, Tidy, Advanced, Idle, laid}

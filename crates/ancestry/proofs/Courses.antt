@@ -1,12 +1,12 @@
 -- What the paints tell once higher commits have handed theirs on. Assumes nothing.
-use Rattle.std.proofs.Common.{◌≡◌, ℕ, zero, suc, ◌+◌, ◌<◌, ◌≤◌, Bool, true, false, ◌&&◌, ◌||◌, ◌⊎◌, List, [], ◌∷◌, length, get_or, set, sym, refl, ap, ◌∙◌, subst, ap₂, inl, inr, ⊎_elim, arith}
+use Rattle.std.proofs.Common.{◌≡◌, ℕ, zero, suc, ◌<◌, ◌≤◌, Bool, true, false, ◌||◌, List, [], ◌∷◌, length, get_or, sym, refl, ap, ◌∙◌, subst, ⊎_elim, arith}
 use Rattle.std.proofs.lemmas.List.{length-set, get_or-set_same, get_or-set_other}
 use Rattle.std.proofs.lemmas.Bool.{cases_eq, cases_lt, both_ways, or_cases, or_left, or_right, and_parts, and_from}
 use Rattle.history.specs.History.{Commit, Parent, Chain, Reaches, parents_of}
 use Rattle.history.specs.History.Chain.{here, onward}
 use Rattle.history.proofs.Chains.{chain_falls, reaches_on}
 use Rattle.ancestry.specs.declared.paint.Paint.{Paint}
-use Rattle.ancestry.specs.declared.paint.Paint.TheVariants.{Clear, Left, Right, Both, Below}
+use Rattle.ancestry.specs.declared.paint.Paint.TheVariants.{Clear, Left, Right}
 use Rattle.ancestry.specs.declared.waiting.Front.{Front}
 use Rattle.ancestry.specs.Ancestry.{Common}
 use Rattle.ancestry.specs.Painting.{paint_at, Under, Sound, Handed, Painting, laid, all_laid, Advanced}

@@ -1,14 +1,14 @@
 -- The list of merge bases, along the walk. Assumes nothing.
-use Rattle.std.proofs.Common.{◌≡◌, ℕ, suc, ◌+◌, ◌<◌, ◌≤◌, true, ◌⊎◌, List, [], ◌∷◌, ◌++◌, length, get_or, set, sym, refl, ap, ◌∙◌, subst, inl, inr, ⊎_elim, arith}
+use Rattle.std.proofs.Common.{◌≡◌, ℕ, ◌+◌, ◌<◌, ◌≤◌, ◌⊎◌, List, [], ◌∷◌, ◌++◌, length, get_or, set, sym, refl, ap, ◌∙◌, inl, inr, ⊎_elim, arith}
 use Rattle.std.proofs.lemmas.List.{length_push}
 use Rattle.std.proofs.lemmas.Bool.{eqb-true, and_parts, or_cases}
 use Rattle.frontier.specs.declared.elements.ByNumber.{ByNumber}
-use Rattle.history.specs.History.{Commit, Parent, Reaches}
-use Rattle.ancestry.specs.declared.goal.Goal.TheVariants.{Counts, Bases as ForBases}
+use Rattle.history.specs.History.{Commit, Parent}
+use Rattle.ancestry.specs.declared.goal.Goal.TheVariants.{Bases as ForBases}
 use Rattle.ancestry.specs.declared.paint.Paint.{Paint}
-use Rattle.ancestry.specs.declared.paint.Paint.TheVariants.{Clear, Left, Right, Both, Below}
+use Rattle.ancestry.specs.declared.paint.Paint.TheVariants.{Left, Right, Both}
 use Rattle.ancestry.specs.declared.waiting.Front.{Front}
-use Rattle.ancestry.specs.Ancestry.{MergeBase, Bases, filled}
+use Rattle.ancestry.specs.Ancestry.{Bases, filled}
 use Rattle.ancestry.specs.Painting.{paint_at, Painting, Tidy, Advanced, Idle, laid}
 use Rattle.ancestry.specs.Paints.{paint_of, byte_of, is_left, is_right, is_both}
 use Rattle.ancestry.proofs.Basing.{no_base_below, bases_end, bases_more, bases_same}

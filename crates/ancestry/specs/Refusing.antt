@@ -1,5 +1,5 @@
 -- When a question about two commits is refused before its walk, tested in this order. Assumes nothing.
-use Rattle.std.specs.Prelude.{◌≡◌, ℕ, ◌+◌, ◌<◌, min, cond, List, length, drop, Some, None, Ok, Err, Option, Result, nat_le, nat_lt, slice_index}
+use Rattle.std.specs.Prelude.{◌≡◌, ℕ, ◌<◌, min, cond, List, length, drop, Some, None, Ok, Err, Option, Result, nat_le, nat_lt, slice_index}
 use Rattle.history.specs.declared.refusal.Refusal.{Refusal}
 use Rattle.history.specs.declared.refusal.Refusal.TheVariants.{BufferTooShort, ResultTooShort, CommitNotHeld}
 use Rattle.history.specs.History.{Commit}

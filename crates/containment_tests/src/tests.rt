@@ -62,7 +62,7 @@ fn refused(
     let mut results = [9; 3];
     let mut marks = [9; 7];
     let mut queue = [ByNumber { number: 9 }; 7];
-    assert!(rt; told <= 3 && marked <= 7 && queued <= 7);
+    assert!(rt; told <= 3 && marked <= 7 && queued <= 7, "{why}");
     let reply = ask_seven::<Blank>(
         &mut [(); 7],
         target,

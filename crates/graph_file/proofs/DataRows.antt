@@ -15,6 +15,10 @@ pub row_wide : (r : Row) → length r.tree ≡ 20 → length (row_bytes r) ≡ 3
 row_wide r e =
     length-append r.tree (word r.first ++ (word r.second ++ (word r.generation ++ word r.low))) ∙ ap (λ n. n + 16) e
 
+pub same_row : {t u : List ℕ} {a a' b b' c c' d d' : ℕ} → t ≡ u → a ≡ a' → b ≡ b' → c ≡ c' → d ≡ d' →
+    ◌≡◌ {A = Row} (record { tree = t; first = a; second = b; generation = c; low = d }) (record { tree = u; first = a'; second = b'; generation = c'; low = d' })
+same_row t a b c d = cc
+
 -- the parts of a row, put one behind another
 pub row_placed : (d e₁ e₂ e₃ e₄ e₅ : List ℕ) (at : ℕ) (tree : List ℕ) (first second generation low : ℕ) → length tree ≡ 20 → at + 36 ≤ length d → length e₁ ≡ length d →
     e₁ ≡ placed d at tree → e₂ ≡ placed e₁ (at + 20) (word first) → e₃ ≡ placed e₂ (at + 24) (word second) → e₄ ≡ placed e₃ (at + 28) (word generation) → e₅ ≡ placed e₄ (at + 32) (word low) →
@@ -49,20 +53,12 @@ module _ (h : List Commit) (order : List ℕ) where
       ∙ ap (λ x. row_bytes (row_of_commit h order (get_or order place 0) x)) (from ∙ (let z : extras h (take place order) ≡ 0 + extras h (take place order) = omega arith in z))
       ∙ sym (ap row_bytes (row_at order 0 place lt))
 
-  pub rows_wide : FileOrder h order → ((a : ℕ) → a < length h → (length (commit_of h a).id ≡ 20) × (length (commit_of h a).tree ≡ 20)) →
-      (k : ℕ) → k < length (rows_from h order 0 order) → length (row_bytes (get_or (rows_from h order 0 order) k blank_row)) ≡ 36
-  rows_wide s wide k lt =
-      let long = length_rows order 0 in
-      ap (λ r. length (row_bytes r)) (row_at order 0 k (omega arith))
-      ∙ row_wide (row_of_commit h order (get_or order k 0) (0 + extras h (take k order))) (wide (get_or order k 0) (s.held k (omega arith))).1
+  -- a tree's id has 20 bytes, and so a row 36
+  module _ (s : FileOrder h order) (wide : (a : ℕ) → a < length h → (length (commit_of h a).id ≡ 20) × (length (commit_of h a).tree ≡ 20)) where
+    pub trees_wide : (k : ℕ) → k < length (rows_from h order 0 order) → length (get_or (rows_from h order 0 order) k blank_row).tree ≡ 20
+    trees_wide k lt =
+        let long = length_rows order 0 in
+        ap (λ r. length r.tree) (row_at order 0 k (omega arith)) ∙ (wide (get_or order k 0) (s.held k (omega arith))).1
 
-  pub same_row : (n start : ℕ) (tree : List ℕ) (first second generation low : ℕ) → tree ≡ (row_of_commit h order n start).tree → first ≡ (row_of_commit h order n start).first →
-      second ≡ (row_of_commit h order n start).second → generation ≡ (row_of_commit h order n start).generation → low ≡ (row_of_commit h order n start).low →
-      record { tree = tree; first = first; second = second; generation = generation; low = low } ≡ row_of_commit h order n start
-  same_row n start tree first second generation low a b c d e =
-      let r = row_of_commit h order n start in
-      ap (λ x. record { tree = x; first = first; second = second; generation = generation; low = low }) a
-      ∙ ap (λ x. record { tree = r.tree; first = x; second = second; generation = generation; low = low }) b
-      ∙ ap (λ x. record { tree = r.tree; first = r.first; second = x; generation = generation; low = low }) c
-      ∙ ap (λ x. record { tree = r.tree; first = r.first; second = r.second; generation = x; low = low }) d
-      ∙ ap (λ x. record { tree = r.tree; first = r.first; second = r.second; generation = r.generation; low = x }) e
+    pub rows_wide : (k : ℕ) → k < length (rows_from h order 0 order) → length (row_bytes (get_or (rows_from h order 0 order) k blank_row)) ≡ 36
+    rows_wide k lt = row_wide (get_or (rows_from h order 0 order) k blank_row) (trees_wide k lt)

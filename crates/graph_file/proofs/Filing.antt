@@ -1,5 +1,5 @@
 -- Tables that hold a history in the file's order: what is read of them. Assumes nothing.
-use Rattle.std.proofs.Common.{◌≡◌, ℕ, zero, suc, ◌+◌, ◌-◌, ◌*◌, ◌/◌, ◌<◌, ◌≤◌, true, List, [], ◌∷◌, length, get_or, take, sym, refl, ap, ◌∙◌, subst, ap₂, ⊎_elim, arith}
+use Rattle.std.proofs.Common.{◌≡◌, ℕ, zero, suc, ◌+◌, ◌*◌, ◌/◌, ◌<◌, ◌≤◌, true, List, [], ◌∷◌, length, get_or, take, sym, refl, ap, ◌∙◌, subst, ap₂, ⊎_elim, arith}
 use Rattle.std.proofs.lemmas.List.{get_or-map, length-map}
 use Rattle.std.proofs.lemmas.Bool.{cases_order, eq-eqb, ne_eqb, cond-true, cond-false, both_ways}
 use Rattle.labels.specs.declared.kind.LabelKind.{Ghosts}
@@ -49,6 +49,12 @@ module _ (h : List Commit) (order : List ℕ) (s : FileOrder h order) where
       subst (λ x. precedes (get_or (ids_of h order) i []) x ≡ true) (sym at_j)
       (subst (λ x. precedes x (id_at j) ≡ true) (sym at_i) (s.rising i j l (omega arith)))
 
+  pub each_wide : ((a : ℕ) → a < length h → (length (commit_of h a).id ≡ 20) × (length (commit_of h a).tree ≡ 20)) →
+      (k : ℕ) → k < length (ids_of h order) → length (get_or (ids_of h order) k []) ≡ 20
+  each_wide wide k lt =
+      let long = length-map order (λ n. (commit_of h n).id) in
+      ap length (get_or-map (λ n. (commit_of h n).id) order k 0 [] (omega arith)) ∙ (wide (get_or order k 0) (s.held k (omega arith))).0
+
 module _ {K L : Type 0} {kind : Ghosts K L} (g : CommitGraph K L kind) (h : List Commit) (order : List ℕ) (s : Filed g h order) where
   pub filed_length : length order ≡ g.count
   filed_length = sym (ap length s.sorted) ∙ length_listed g
@@ -76,10 +82,7 @@ module _ {K L : Type 0} {kind : Ghosts K L} (g : CommitGraph K L kind) (h : List
       ∙ sym (get_or-map (λ a. (commit_of h a).id) order i 0 [] (omega (arith, filed_length)))
 
   pub ids_wide : (k : ℕ) → k < length (ids_of h order) → length (get_or (ids_of h order) k []) ≡ 20
-  ids_wide k lt =
-      let long = ids_length in
-      let short = filed_length in
-      ap length (get_or-map (λ a. (commit_of h a).id) order k 0 [] (omega arith)) ∙ (s.wide (get_or order k 0) (s.ordered.held k (omega arith))).0
+  ids_wide = each_wide h order s.ordered s.wide
 
   -- how many ids come before that of a commit is its position
   pub place_is_position : (n place : ℕ) → n < g.count → place ≤ g.count →

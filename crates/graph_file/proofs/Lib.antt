@@ -1,9 +1,11 @@
 pub mod DataRows
 pub mod EdgeWords
 pub mod FanOuts
+pub mod FileOrders
 pub mod FileParts
 pub mod Filing
 pub mod Fronts
 pub mod Placed
+pub mod PositionWords
 pub mod Replies
 pub mod Sources

@@ -1,5 +1,5 @@
 -- The file of a history. Assumes nothing.
-use Rattle.std.specs.Prelude.{◌≡◌, ℕ, suc, ◌+◌, ◌-◌, ◌*◌, ◌/◌, ◌%◌, ◌<◌, true, cond, List, [], ◌∷◌, ◌++◌, map, length, ◌==◌, nat_lt, slice_index}
+use Rattle.std.specs.Prelude.{◌≡◌, ℕ, suc, ◌+◌, ◌-◌, ◌*◌, ◌/◌, ◌%◌, ◌<◌, true, cond, List, [], ◌∷◌, map, length, ◌==◌, nat_lt, slice_index}
 use Rattle.std.specs.List.{flat_map}
 use Rattle.history.specs.Generations.{levels_of}
 use Rattle.history.specs.History.{Commit, commit_of, parents_of}
@@ -17,6 +17,10 @@ pub record FileOrder (h : List Commit) (order : List ℕ) : Type 0 where
 abbrev pub position : List ℕ → ℕ → ℕ
 position [] n = 0
 position (m ∷ order) n = cond (m == n) 0 (suc (position order n))
+
+-- the file positions of commits
+abbrev pub positions : List ℕ → List ℕ → List ℕ
+positions order ns = map (position order) ns
 
 -- how many words of EDGE a list of parents takes: from the second on, where there are more than two
 abbrev pub extra : List ℕ → ℕ

@@ -1,5 +1,5 @@
 -- A commit-graph file of version 1 without its closing checksum: what its chunks hold, and its bytes. Assumes nothing.
-use Rattle.std.specs.Prelude.{ℕ, ◌+◌, ◌*◌, Bool, true, false, cond, List, [], ◌∷◌, ◌++◌, map, length, codes, nat_le, slice_index}
+use Rattle.std.specs.Prelude.{ℕ, ◌+◌, ◌*◌, Bool, true, false, cond, List, [], ◌∷◌, ◌++◌, length, codes, nat_le, slice_index}
 use Rattle.std.specs.List.{range_with_len, flat_map}
 use Rattle.graph_file.specs.Words.{word, long_word}
 

@@ -1,8 +1,9 @@
 -- The parents of one commit, read again, are those of the pass over all commits. Assumes nothing.
 use Rattle.std.proofs.Common.{◌≡◌, ℕ, zero, suc, ◌+◌, ◌-◌, ◌<◌, eqb, ltb, ◌⊎◌, List, [], ◌∷◌, get_or, drop, None, Ok, Err, Result, sym, refl, ap, ◌∙◌, subst, inl, inr, ⊎_elim, arith}
 use Rattle.std.proofs.lemmas.Bool.{cases_Bool, cases_eq, cond-true, cond-false, ne_eqb, and_left}
-use Rattle.graph_file.specs.ParentWords.{no_parent, mark, extra}
-use Rattle.graph_reader.specs.declared.graph_file.GraphFile.{GraphFile}
+use Rattle.graph_file.specs.Encoding.{extra}
+use Rattle.graph_file.specs.ParentWords.{no_parent, mark}
+use Rattle.graph_reader.specs.declared.parts.GraphFile.{GraphFile}
 use Rattle.graph_reader.specs.Parents.{led_by, others_of, parents_by}
 use Rattle.graph_reader.specs.PartParents.{part_row, part_rows, part_words, parents_at, parents_of_all}
 use Rattle.graph_reader.specs.Verdict.{failed_at, listed_in}

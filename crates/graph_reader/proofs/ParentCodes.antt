@@ -4,7 +4,8 @@ use Rattle.std.specs.List.{flat_map}
 use Rattle.std.proofs.lemmas.Result.{IfOk-at_ok, IfOk-weaker}
 use Rattle.std.proofs.lemmas.Bool.{ltb-true, leb-true, leb-false, eqb-true, lt-ltb, and_parts, cond-true, cond_both}
 use Rattle.graph_file.specs.Layout.{Row, has_edges}
-use Rattle.graph_file.specs.ParentWords.{no_parent, mark, extra, closed_words, edge_words, first_parent_word, second_parent_word}
+use Rattle.graph_file.specs.Encoding.{extra}
+use Rattle.graph_file.specs.ParentWords.{no_parent, mark, closed_words, edge_words, first_parent_word, second_parent_word}
 use Rattle.graph_file.proofs.EdgeWords.{extra_many}
 use Rattle.graph_reader.specs.Parents.{led_by, went_on, listed_from, others_of, parents_by, used_up, parents_from}
 

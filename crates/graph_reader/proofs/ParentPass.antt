@@ -3,8 +3,8 @@ use Rattle.std.proofs.Common.{◌≡◌, ℕ, suc, ◌+◌, ◌*◌, ◌<◌, �
 use Rattle.std.proofs.lemmas.List.FromFn.{length-map-range_with_len, get_or-map-range_with_len}
 use Rattle.std.proofs.lemmas.List.{at_drop_more, at_drop_all, drop-drop}
 use Rattle.graph_file.specs.Layout.{Row}
-use Rattle.graph_file.specs.ParentWords.{extra}
-use Rattle.graph_reader.specs.declared.graph_file.GraphFile.{GraphFile}
+use Rattle.graph_file.specs.Encoding.{extra}
+use Rattle.graph_reader.specs.declared.parts.GraphFile.{GraphFile}
 use Rattle.graph_reader.specs.Bytes.{row_at}
 use Rattle.graph_reader.specs.Parents.{led_by, went_on, used_up, parents_from}
 use Rattle.graph_reader.specs.PartParents.{part_row, part_rows, part_words, parents_at}

@@ -5,7 +5,7 @@ use Rattle.std.proofs.lemmas.List.{at_drop_more, at_drop_all}
 use Rattle.std.proofs.lemmas.Bool.{cond-true, cond-false, lt-ltb, le-ltb, le-leb, lt-leb, ne_eqb, eq-eqb, and_from, and_left, and_right}
 use Rattle.graph_file.specs.Layout.{has_edges}
 use Rattle.graph_file.specs.ParentWords.{no_parent, mark}
-use Rattle.graph_reader.specs.declared.graph_file.GraphFile.{GraphFile}
+use Rattle.graph_reader.specs.declared.parts.GraphFile.{GraphFile}
 use Rattle.graph_reader.specs.Bytes.{word_in}
 use Rattle.graph_reader.specs.Parents.{led_by, listed_from, others_of}
 use Rattle.graph_reader.specs.PartParents.{behind, part_row, part_words, list_at, others_at}

@@ -6,8 +6,9 @@ use Rattle.std.proofs.lemmas.Bool.{lt-ltb, le-ltb, le-leb, lt-leb, eq-eqb, ne_eq
 use Rattle.history.specs.History.{Commit, parents_of, Wellformed}
 use Rattle.graph_file.specs.Encoding.{FileOrder, position, positions, edges_from, rows_from, layout_of}
 use Rattle.graph_file.specs.Layout.{has_edges}
-use Rattle.graph_file.specs.ParentWords.{no_parent, mark, extra, closed_words, edge_words, first_parent_word, second_parent_word}
-use Rattle.graph_file.proofs.EdgeWords.{length_edges, extra_positions}
+use Rattle.graph_file.specs.Encoding.{extra}
+use Rattle.graph_file.specs.ParentWords.{no_parent, mark, closed_words, edge_words, first_parent_word, second_parent_word}
+use Rattle.graph_file.proofs.PositionWords.{length_edges, extra_positions, edges_by_positions, first_by_positions, second_by_positions}
 use Rattle.graph_file.proofs.Filing.{ordered_position}
 use Rattle.graph_reader.specs.Parents.{led_by, went_on, listed_from, others_of, parents_by, parents_from}
 use Rattle.graph_reader.proofs.ParentCodes.{Held}
@@ -91,7 +92,10 @@ module _ (h : List Commit) (order : List ℕ) where
             let rows = rows_from h order (next + extra (parents_of h n)) ns in
             let onward : List ℕ → Result (List (List ℕ)) ℕ =
             λ ps. led_by ps (parents_from (length h) cdat edge (suc p) (next + extra ps) rows (drop (extra ps) (edge_words qs ++ rest))) in
-            ap (λ r. went_on r onward)
+            ap (λ ws. parents_from (length h) cdat edge p next (rows_from h order next (n ∷ ns)) (ws ++ rest)) (edges_by_positions order (parents_of h n))
+            ∙ ap₂ (λ a b. went_on (parents_by (length h) cdat edge p next a b (edge_words qs ++ rest)) onward)
+            (first_by_positions order (parents_of h n)) (second_by_positions order next (parents_of h n))
+            ∙ ap (λ r. went_on r onward)
             (words_read (length h) cdat edge few qs rest p next (omega (arith, length_named n, w.few n)) (named_held n (held 0 (omega arith))))
             ∙ ap₂ (λ x ws. led_by qs (parents_from (length h) cdat edge (suc p) (next + x) rows ws)) (extra_positions order (parents_of h n)) (drop_edges qs rest)
             ∙ ap (led_by qs) (read_from ns (suc p) (next + extra (parents_of h n)) (λ i lt. held (suc i) (omega arith)))

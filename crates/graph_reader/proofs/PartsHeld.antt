@@ -5,7 +5,7 @@ use Rattle.std.specs.Option.{option_map}
 use Rattle.history.specs.declared.load_fault.HistoryFault.TheVariants.{WrongLevel}
 use Rattle.history.specs.declared.load_fault.LoadFault.TheVariants.{History}
 use Rattle.graph_file.specs.Layout.{Row}
-use Rattle.graph_reader.specs.declared.graph_file.GraphFile.{GraphFile}
+use Rattle.graph_reader.specs.declared.parts.GraphFile.{GraphFile}
 use Rattle.graph_reader.specs.declared.parent_list.ParentList.{ParentList}
 use Rattle.graph_reader.specs.Bytes.{data_begin, layout_in}
 use Rattle.graph_reader.specs.ChunkFaults.{order_tests}

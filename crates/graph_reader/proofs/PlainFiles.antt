@@ -3,9 +3,11 @@ use Rattle.std.proofs.Common.{◌≡◌, ℕ, zero, suc, ◌+◌, ◌-◌, ◌<�
 use Rattle.std.specs.List.{flat_map}
 use Rattle.std.proofs.lemmas.List.{length-map, length-append, get_or_append_left, get_or-append_right}
 use Rattle.std.proofs.lemmas.Bool.{cases_lt, ltb-true, cond_both}
+use Rattle.graph_file.proofs.PositionWords.{edges_by_positions, first_by_positions, second_by_positions}
 use Rattle.history.specs.History.{Commit, commit_of, parents_of, parent_total, Wellformed}
 use Rattle.graph_file.specs.Encoding.{FileOrder, edges_from, row_of_commit, layout_of}
-use Rattle.graph_file.specs.ParentWords.{extra, closed_words, edge_words, first_parent_word, second_parent_word}
+use Rattle.graph_file.specs.Encoding.{extra}
+use Rattle.graph_file.specs.ParentWords.{closed_words, edge_words, first_parent_word, second_parent_word}
 use Rattle.graph_file.specs.Placing.{extras}
 use Rattle.graph_file.proofs.DataRows.{length_rows, row_at, trees_wide}
 use Rattle.graph_file.proofs.EdgeWords.{length_edge_words}
@@ -66,8 +68,8 @@ module _ (h : List Commit) (order : List ℕ) (w : Wellformed h) (s : FileOrder 
       let qs = named_parents h order n in
       let held = named_held h order s w n lt in
       record {
-        first = first_fits (length h) few qs held;
-        second = second_fits (length h) few start qs le held;
+        first = subst (λ x. x < 4294967296) (sym (first_by_positions order (parents_of h n))) (first_fits (length h) few qs held);
+        second = subst (λ x. x < 4294967296) (sym (second_by_positions order start (parents_of h n))) (second_fits (length h) few start qs le held);
         generation = omega (arith, level_most h w n lt, w.dated n);
         low = omega arith;
       }
@@ -77,7 +79,7 @@ module _ (h : List Commit) (order : List ℕ) (w : Wellformed h) (s : FileOrder 
   words_fit [] held = λ j lt. absurd (omega arith)
   words_fit (n ∷ ns) held =
       held_append 4294967296 (edges_from order (parents_of h n)) (flat_map (λ m. edges_from order (parents_of h m)) ns)
-      (edges_fit (length h) few (named_parents h order n) (named_held h order s w n (held 0 (omega arith))))
+      (subst (Held 4294967296) (sym (edges_by_positions order (parents_of h n))) (edges_fit (length h) few (named_parents h order n) (named_held h order s w n (held 0 (omega arith)))))
       (words_fit ns (λ i lt. held (suc i) (omega arith)))
 
   pub plain : Plain (layout_of h order)

@@ -1,5 +1,5 @@
 -- A file without fault is the one that is written of the history it describes. Assumes nothing.
-use Rattle.std.proofs.Common.{◌≡◌, ℕ, suc, ◌+◌, ◌-◌, ◌*◌, ◌/◌, ◌%◌, ◌<◌, List, [], ◌∷◌, map, length, get_or, None, sym, refl, ap, ◌∙◌, subst, ap₂, arith}
+use Rattle.std.proofs.Common.{◌≡◌, ℕ, suc, ◌+◌, ◌*◌, ◌/◌, ◌%◌, ◌<◌, List, [], ◌∷◌, map, length, get_or, None, sym, refl, ap, ◌∙◌, subst, ap₂, arith}
 use Rattle.std.specs.List.{flat_map}
 use Rattle.std.proofs.lemmas.List.FromFn.{length-map-range_with_len, get_or-map-range_with_len, fill_by_all}
 use Rattle.std.proofs.lemmas.List.{length-map, get_or-map, ext_get_or}
@@ -7,9 +7,10 @@ use Rattle.history.specs.Generations.{levels_of}
 use Rattle.history.specs.History.{Commit, commit_of, parents_of}
 use Rattle.graph_file.specs.Encoding.{FileOrder, position, positions, rows_from, layout_of}
 use Rattle.graph_file.specs.Layout.{Row, file_bytes}
-use Rattle.graph_file.specs.ParentWords.{extra, edge_words}
+use Rattle.graph_file.specs.Encoding.{extra}
+use Rattle.graph_file.specs.ParentWords.{edge_words}
 use Rattle.graph_file.proofs.DataRows.{blank_row, same_row}
-use Rattle.graph_file.proofs.EdgeWords.{extra_positions}
+use Rattle.graph_file.proofs.PositionWords.{extra_positions, all_edges_by_positions, first_by_positions, second_by_positions}
 use Rattle.graph_file.proofs.FileParts.{same_layout}
 use Rattle.graph_file.proofs.Filing.{ordered_position}
 use Rattle.graph_reader.specs.Bytes.{id_at, row_at, told_count, id_chunk, data_chunk, layout_in}
@@ -46,7 +47,7 @@ module _ (h : List Commit) (order : List ℕ) where
   rows_written next (n ∷ ns) (r ∷ rows) e each =
       let here = each 0 (omega arith) in
       ap₂ (λ x xs. x ∷ xs)
-      (same_row here.tree e.0 e.1 here.dated.0 here.dated.1)
+      (same_row here.tree (e.0 ∙ sym (first_by_positions order (parents_of h n))) (e.1 ∙ sym (second_by_positions order next (parents_of h n))) here.dated.0 here.dated.1)
       (rows_written (next + extra (named_parents h order n)) ns rows e.2 (λ k lt. each (suc k) (omega arith))
       ∙ ap (λ x. rows_from h order (next + x) ns) (extra_positions order (parents_of h n)))
 
@@ -85,6 +86,7 @@ module _ (bytes : List ℕ) (low : AllBytes bytes) (s : Faultless bytes) (h : Li
 
   edges_are : (layout_in bytes).edges ≡ (layout_of h order).edges
   edges_are = (file_named bytes s).words_are ∙ ap (flat_map edge_words) parents_written ∙ joined_map edge_words (named_parents h order) order
+      ∙ sym (all_edges_by_positions order h order)
 
   layout_written : layout_in bytes ≡ layout_of h order
   layout_written = same_layout ids_written rows_are edges_are

@@ -1,6 +1,6 @@
 -- What the parts of a file are. Assumes nothing.
 use Rattle.std.specs.Prelude.{◌≡◌, ℕ, List, take}
-use Rattle.graph_reader.specs.declared.graph_file.GraphFile.{GraphFile}
+use Rattle.graph_reader.specs.declared.parts.GraphFile.{GraphFile}
 use Rattle.graph_reader.specs.declared.parent_list.ParentList.{ParentList}
 use Rattle.graph_reader.specs.Bytes.{ids_begin, data_begin, data_end, told_count, told_edges, id_chunk, data_chunk, edge_chunk}
 

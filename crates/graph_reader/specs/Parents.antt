@@ -1,7 +1,8 @@
 -- The parents that a file names, as file positions, or the byte place of the first word that the layout excludes, given those before it. Assumes nothing.
 use Rattle.std.specs.Prelude.{ℕ, suc, ◌+◌, ◌-◌, ◌*◌, cond, ◌&&◌, List, [], ◌∷◌, drop, Ok, Err, Result, ◌==◌, nat_le, nat_lt}
 use Rattle.graph_file.specs.Layout.{Row, has_edges}
-use Rattle.graph_file.specs.ParentWords.{no_parent, mark, extra}
+use Rattle.graph_file.specs.Encoding.{extra}
+use Rattle.graph_file.specs.ParentWords.{no_parent, mark}
 
 -- x in front of a list, where there is one
 abbrev pub led_by : {X : Type 0} → X → Result (List X) ℕ → Result (List X) ℕ

@@ -1,7 +1,7 @@
 -- The parents that the parts of a file name. Assumes nothing.
 use Rattle.std.specs.Prelude.{ℕ, List, ◌++◌, drop, Ok, Err, Result}
 use Rattle.graph_file.specs.Layout.{Row}
-use Rattle.graph_reader.specs.declared.graph_file.GraphFile.{GraphFile}
+use Rattle.graph_reader.specs.declared.parts.GraphFile.{GraphFile}
 use Rattle.graph_reader.specs.declared.parent_list.ParentList.{ParentList}
 use Rattle.graph_reader.specs.Bytes.{row_at, rows_in, words_in}
 use Rattle.graph_reader.specs.Holding.{listed}

@@ -1,9 +1,7 @@
 -- What a file is refused for: the first fault, layer by layer. Assumes nothing.
 use Rattle.std.specs.Prelude.{ℕ, ◌+◌, List, [], ◌∷◌, length, Some, None, Ok, Err, Option, Result}
 use Rattle.std.specs.Option.{option_map}
-use Rattle.history.specs.declared.load_fault.ChunkFault.{ChunkFault}
 use Rattle.history.specs.declared.load_fault.ChunkFault.TheVariants.{WrongFanOut, UnorderedId, WrongParent}
-use Rattle.history.specs.declared.load_fault.HistoryFault.{HistoryFault}
 use Rattle.history.specs.declared.load_fault.HistoryFault.TheVariants.{WrongLevel}
 use Rattle.history.specs.declared.load_fault.LoadFault.{LoadFault}
 use Rattle.history.specs.declared.load_fault.LoadFault.TheVariants.{Container, Chunk, History}

@@ -4,9 +4,9 @@ ghost use Rattle.graph_reader.specs.FileCommits.{file_commit, file_level};
 ghost use Rattle.graph_reader.specs.Holding.{Holds, listed};
 ghost use Rattle.graph_reader.specs.Verdict.{total_of, parents_in, file_fault};
 
-use crate::graph_file::GraphFile;
 use crate::parent_list::ParentList;
 use crate::parents::parents_of;
+use crate::parts::GraphFile;
 use history::ObjectId;
 
 impl GraphFile<'_> {

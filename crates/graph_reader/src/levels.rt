@@ -6,9 +6,9 @@ ghost use Rattle.graph_reader.specs.Levels.{levels_in, level_by, level_tests};
 ghost use Rattle.graph_reader.specs.PartParents.{part_rows, parents_of_all};
 ghost use Rattle.graph_reader.specs.Verdict.{failed_at};
 
-use crate::graph_file::GraphFile;
 use crate::parent_list::ParentList;
 use crate::parents::parents_of;
+use crate::parts::GraphFile;
 
 // The level that the rule gives a commit with these parents.
 fn level_over(file: &GraphFile<'_>, parents: &ParentList) -> u32

@@ -7,15 +7,15 @@ mod data_chunk;
 mod edge_chunk;
 mod fan_out_chunk;
 mod first_bytes;
-mod graph_file;
 mod id_chunk;
 mod levels;
 mod parent_list;
 mod parent_lists;
 mod parents;
+mod parts;
 mod reading;
 mod test;
 
-pub use graph_file::GraphFile;
 pub use parent_list::ParentList;
+pub use parts::GraphFile;
 pub use reading::{fault_of, open};

@@ -1,6 +1,6 @@
 // Making and reading a list of parents.
 ghost use Rattle.std.specs.Prelude.{◌≡◌, ◌+◌, ◌<◌, ◌≤◌, [], ◌∷◌, ◌++◌, length};
-ghost use Rattle.graph_file.specs.ParentWords.{extra};
+ghost use Rattle.graph_file.specs.Encoding.{extra};
 ghost use Rattle.graph_reader.specs.Holding.{listed};
 
 use crate::parent_list::ParentList;

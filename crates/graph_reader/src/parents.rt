@@ -5,8 +5,8 @@ ghost use Rattle.graph_reader.specs.Holding.{listed};
 ghost use Rattle.graph_reader.specs.PartParents.{as_read, behind, part_row, list_at, others_at, parents_at, parents_of_all};
 ghost use Rattle.graph_reader.specs.Verdict.{failed_at};
 
-use crate::graph_file::GraphFile;
 use crate::parent_list::ParentList;
+use crate::parts::GraphFile;
 
 // Stands in the place of a parent that there is not.
 const NO_PARENT: u32 = 0x7000_0000;

@@ -9,10 +9,10 @@ use crate::data_chunk::DataChunk;
 use crate::edge_chunk::EdgeChunk;
 use crate::fan_out_chunk::FanOutChunk;
 use crate::first_bytes::fan_out_counts;
-use crate::graph_file::GraphFile;
 use crate::id_chunk::IdChunk;
 use crate::levels::first_wrong_level;
 use crate::parents::first_wrong_parent;
+use crate::parts::GraphFile;
 use history::{ChunkFault, HistoryFault, LoadFault};
 
 // The parts of a file whose container is right.

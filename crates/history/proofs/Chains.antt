@@ -55,7 +55,7 @@ module _ (value : ℕ → ℕ) where
   climb_from [] s = omega arith
   climb_from (p ∷ ps) s = omega (arith, climb_from ps (above s (value p)))
 
-  climb_over : (ps : List ℕ) (s j : ℕ) → j < length ps → value (get_or ps j 0) + 1 ≤ climb s ps
+  pub climb_over : (ps : List ℕ) (s j : ℕ) → j < length ps → value (get_or ps j 0) + 1 ≤ climb s ps
   climb_over [] s j lt = absurd (omega arith)
   climb_over (p ∷ ps) s zero lt = omega (arith, climb_from ps (above s (value p)))
   climb_over (p ∷ ps) s (suc j) lt = climb_over ps (above s (value p)) j (omega arith)

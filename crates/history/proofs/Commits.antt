@@ -6,10 +6,10 @@ use Rattle.std.proofs.lemmas.Bool.{cases_lt}
 use Rattle.labels.specs.declared.kind.LabelKind.{Ghosts}
 use Rattle.history.specs.declared.row.CommitRow.{CommitRow}
 use Rattle.history.specs.declared.graph.CommitGraph.{CommitGraph}
-use Rattle.history.specs.Graph.{history, Represents}
+use Rattle.history.specs.Graph.{history, Filled, Represents}
 use Rattle.history.specs.History.{no_commit, commit_of, Parent}
 use Rattle.history.specs.Model.{Model}
-use Rattle.history.specs.Tables.{no_row, row_of, commit, commits}
+use Rattle.history.specs.Tables.{no_row, row_of, commit, commits, Rising, Complete}
 use Rattle.history.proofs.Lists.{get_d_map_take}
 
 module _ (rows : List CommitRow) (parents : List ℕ) (count : ℕ) (rowed : count ≤ length rows) where
@@ -19,14 +19,51 @@ module _ (rows : List CommitRow) (parents : List ℕ) (count : ℕ) (rowed : cou
   pub commit_at : (k : ℕ) → k < count → commit_of (commits rows parents count) k ≡ commit parents (row_of rows k)
   commit_at k lt = get_d_map_take (commit parents) rows count k no_row no_commit rowed lt
 
--- the same of the commits that the tables represent
+-- the same of the commits that the tables are filled with
+module _ {K L : Type 0} {kind : Ghosts K L} (start : ℕ → ℕ → L) (grown : L → L → L) (m : Model) (g : CommitGraph K L kind) (s : Filled start grown m g) where
+  pub filled_length : length m.commits ≡ g.count
+  filled_length = sym (ap length s.commits) ∙ length_commits g.rows.items.now g.parents.items.now g.count g.rowed
+
+  pub filled_at : (k : ℕ) → k < g.count → commit_of m.commits k ≡ commit g.parents.items.now (row_of g.rows.items.now k)
+  filled_at k lt =
+      sym (ap (λ h. commit_of h k) s.commits) ∙ commit_at g.rows.items.now g.parents.items.now g.count g.rowed k lt
+
+  -- tables that are filled represent the model once the order by id is right
+  pub represents : Rising g.rows.items.now g.order.items.now g.count → Complete g.order.items.now g.count → Represents start grown m g
+  represents rising complete =
+      record {
+        commits = s.commits;
+        labels = s.labels;
+        levels = s.levels;
+        corrected = s.corrected;
+        listed = s.listed;
+        wellformed = s.wellformed;
+        rising = rising;
+        complete = complete;
+        room = s.room;
+        parent_room = s.parent_room;
+      }
+
+-- and of those that they represent
 module _ {K L : Type 0} {kind : Ghosts K L} (start : ℕ → ℕ → L) (grown : L → L → L) (m : Model) (g : CommitGraph K L kind) (s : Represents start grown m g) where
+  pub filled_of : Filled start grown m g
+  filled_of =
+      record {
+        commits = s.commits;
+        labels = s.labels;
+        levels = s.levels;
+        corrected = s.corrected;
+        listed = s.listed;
+        wellformed = s.wellformed;
+        room = s.room;
+        parent_room = s.parent_room;
+      }
+
   pub represented_length : length m.commits ≡ g.count
-  represented_length = sym (ap length s.commits) ∙ length_commits g.rows.items.now g.parents.items.now g.count g.rowed
+  represented_length = filled_length start grown m g filled_of
 
   pub represented_at : (k : ℕ) → k < g.count → commit_of m.commits k ≡ commit g.parents.items.now (row_of g.rows.items.now k)
-  represented_at k lt =
-      sym (ap (λ h. commit_of h k) s.commits) ∙ commit_at g.rows.items.now g.parents.items.now g.count g.rowed k lt
+  represented_at = filled_at start grown m g filled_of
 
 -- what the ghost fields say of the commits that the tables hold
 module _ {K L : Type 0} {kind : Ghosts K L} (g : CommitGraph K L kind) where

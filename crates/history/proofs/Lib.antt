@@ -8,3 +8,4 @@ pub mod Making
 pub mod Pushes
 pub mod Reading
 pub mod Refusing
+pub mod Reordering

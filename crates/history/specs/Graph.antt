@@ -24,6 +24,17 @@ module _ {K L : Type 0} {kind : Ghosts K L} (g : CommitGraph K L kind) where
   abbrev pub parent_capacity : ℕ
   parent_capacity = min (length g.parents.items.now) 262144
 
+-- the tables hold the model's commits, with the labels that the kind makes, whatever the order by id holds
+pub record Filled {K L : Type 0} {kind : Ghosts K L} (start : ℕ → ℕ → L) (grown : L → L → L) (m : Model) (g : CommitGraph K L kind) : Type 0 where
+  pub commits : history g ≡ m.commits
+  pub labels : take g.count g.labels.items.now ≡ labels_of start grown m.commits
+  pub levels : map (λ r. r.level) (take g.count g.rows.items.now) ≡ levels_of m.commits
+  pub corrected : map (λ r. r.corrected) (take g.count g.rows.items.now) ≡ corrected_of m.commits
+  pub listed : g.used ≡ parent_total m.commits
+  pub wellformed : Wellformed m.commits
+  pub room : capacity g ≡ m.capacity
+  pub parent_room : parent_capacity g ≡ m.parent_capacity
+
 -- the tables hold the model's commits, with the labels that the kind makes
 pub record Represents {K L : Type 0} {kind : Ghosts K L} (start : ℕ → ℕ → L) (grown : L → L → L) (m : Model) (g : CommitGraph K L kind) : Type 0 where
   pub commits : history g ≡ m.commits

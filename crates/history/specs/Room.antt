@@ -24,3 +24,14 @@ pub record Appended {K L : Type 0} {kind : Ghosts K L} (old new : CommitGraph K 
   pub labels : Outside old.labels.items.now new.labels.items.now old.count (old.count + 1)
   pub order : Outside old.order.items.now new.order.items.now 0 (old.count + 1)
   pub parents : Outside old.parents.items.now new.parents.items.now old.used (old.used + size)
+
+-- the order by id written anew: all else stands
+pub record Reordered {K L : Type 0} {kind : Ghosts K L} (old new : CommitGraph K L kind) (list : List ℕ) : Type 0 where
+  pub count : new.count ≡ old.count
+  pub used : new.used ≡ old.used
+  pub rows : new.rows.items.now ≡ old.rows.items.now
+  pub labels : new.labels.items.now ≡ old.labels.items.now
+  pub parents : new.parents.items.now ≡ old.parents.items.now
+  pub order : take old.count new.order.items.now ≡ list
+  pub behind : drop old.count new.order.items.now ≡ drop old.count old.order.items.now
+  pub long : length new.order.items.now ≡ length old.order.items.now

@@ -1,8 +1,9 @@
 // Adding a commit.
-ghost use Rattle.std.specs.Prelude.{◌≡◌, ℕ, ◌+◌, true, List, length, is_ok, None, MatchResult};
-ghost use Rattle.history.specs.Graph.{Represents, capacity, parent_capacity};
+ghost use Rattle.std.specs.Prelude.{◌≡◌, ℕ, ◌+◌, ◌≤◌, true, List, length, is_ok, None, MatchResult};
+ghost use Rattle.history.specs.Graph.{Filled, Represents, capacity, parent_capacity};
 ghost use Rattle.history.specs.History.{find_id};
 ghost use Rattle.history.specs.Model.{Model, all_below, add_refusal, add_reply, after_add, refused_with, plus};
+ghost use Rattle.history.specs.Order.{Placed};
 ghost use Rattle.history.specs.Room.{Fits, Appended};
 
 use crate::graph::CommitGraph;
@@ -31,14 +32,16 @@ fn all_held(parents: &[u32], count: usize) -> bool
 }
 
 impl<'a, K: LabelKind> CommitGraph<'a, K> {
-    fn capacity(&self) -> usize
+    // How many commits the tables can hold.
+    pub fn capacity(&self) -> usize
         ensures { result ≡ capacity self.now }
     {
         let of_rows = self.rows.len().min(self.labels.len());
         of_rows.min(self.order.len().min(MOST_COMMITS))
     }
 
-    fn parent_capacity(&self) -> usize
+    // How many listed parents they can hold.
+    pub fn parent_capacity(&self) -> usize
         ensures { result ≡ parent_capacity self.now }
     {
         self.parents.len().min(MOST_LISTED)
@@ -70,16 +73,24 @@ impl<'a, K: LabelKind> CommitGraph<'a, K> {
         Ok(())
     }
 
-    // Writes the commit behind the others, and its number into the order by id.
-    fn append(&mut self, id: ObjectId, tree: ObjectId, date: u64, parents: &[u32]) -> u32
+    // Writes the commit behind the others, and its number into the order by id at the place.
+    fn append_at(
+        &mut self,
+        place: usize,
+        id: ObjectId,
+        tree: ObjectId,
+        date: u64,
+        parents: &[u32],
+    ) -> u32
         requires fits { Fits self.old date parents.now }
+        requires among { place ≤ self.old.count }
         ensures number { result ≡ self.old.count }
         ensures tables { Appended self.old self.new (length parents.now) }
-        ensures represents { (m : Model) → Represents K.LabelKind.start K.LabelKind.grown m self.old → find_id m.commits id.bytes ≡ None → Represents K.LabelKind.start K.LabelKind.grown (plus m (record { id = id.bytes; tree = tree.bytes; date = date; parents = parents.now })) self.new }
+        ensures filled { (m : Model) → Filled K.LabelKind.start K.LabelKind.grown m self.old → find_id m.commits id.bytes ≡ None → Filled K.LabelKind.start K.LabelKind.grown (plus m (record { id = id.bytes; tree = tree.bytes; date = date; parents = parents.now })) self.new }
+        ensures order { Placed self.old.rows.items.now self.old.order.items.now self.new.rows.items.now self.new.order.items.now self.old.count id.bytes place }
     {
         let number = self.count;
         let used = self.used;
-        let place = self.place(id);
         let growth = self.growth(date, parents);
         self.order.insert(number, place, number as u32);
         self.parents.paste(used, parents);
@@ -97,6 +108,34 @@ impl<'a, K: LabelKind> CommitGraph<'a, K> {
         self.used = used + parents.len();
         self.count = number + 1;
         number as u32
+    }
+
+    // Writes the commit behind the others, and its number into the order by id, where its id belongs.
+    fn append(&mut self, id: ObjectId, tree: ObjectId, date: u64, parents: &[u32]) -> u32
+        requires fits { Fits self.old date parents.now }
+        ensures number { result ≡ self.old.count }
+        ensures tables { Appended self.old self.new (length parents.now) }
+        ensures represents { (m : Model) → Represents K.LabelKind.start K.LabelKind.grown m self.old → find_id m.commits id.bytes ≡ None → Represents K.LabelKind.start K.LabelKind.grown (plus m (record { id = id.bytes; tree = tree.bytes; date = date; parents = parents.now })) self.new }
+    {
+        let place = self.place(id);
+        self.append_at(place, id, tree, date, parents)
+    }
+
+    // Writes the commit behind the others, and its number at the end of the order by id, which is to be put right later. Only our own crates call this.
+    pub fn append_unordered(
+        &mut self,
+        id: ObjectId,
+        tree: ObjectId,
+        date: u64,
+        parents: &[u32],
+    ) -> u32
+        requires fits { Fits self.old date parents.now }
+        ensures number { result ≡ self.old.count }
+        ensures tables { Appended self.old self.new (length parents.now) }
+        ensures filled { (m : Model) → Filled K.LabelKind.start K.LabelKind.grown m self.old → find_id m.commits id.bytes ≡ None → Filled K.LabelKind.start K.LabelKind.grown (plus m (record { id = id.bytes; tree = tree.bytes; date = date; parents = parents.now })) self.new }
+    {
+        let place = self.count;
+        self.append_at(place, id, tree, date, parents)
     }
 
     // Appends the commit unless a test refuses it.

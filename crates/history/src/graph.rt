@@ -1,5 +1,5 @@
 // The history's tables. The ghost fields say what makes every access safe.
-ghost use Rattle.std.specs.Prelude.{ℕ, ◌+◌, ◌<◌, ◌≤◌, length, get_or};
+ghost use Rattle.std.specs.Prelude.{◌≡◌, ℕ, ◌+◌, ◌<◌, ◌≤◌, length, get_or};
 ghost use Rattle.history.specs.Tables.{Inside, Earlier, Bounded, Within};
 
 use crate::row::CommitRow;
@@ -27,4 +27,5 @@ pub struct CommitGraph<'a, K: LabelKind> {
     ghost earlier: { Earlier rows.items.now parents.items.now count },
     ghost bounded: { Bounded rows.items.now count },
     ghost within: { Within order.items.now count },
+    ghost unused: { count ≡ 0 → used ≡ 0 },
 }

@@ -4,17 +4,20 @@
 mod add;
 mod graph;
 mod growth;
+mod load_fault;
 mod lookup;
 mod object_id;
 mod open;
 mod order;
 mod read;
 mod refusal;
+mod reorder;
 mod row;
 mod steps;
 mod table;
 
 pub use graph::CommitGraph;
+pub use load_fault::{ChunkFault, ContainerFault, HistoryFault, LoadFault};
 pub use object_id::ObjectId;
 pub use refusal::Refusal;
 pub use row::CommitRow;

@@ -1,5 +1,5 @@
 -- A load's answer by the model. Assumes nothing.
-use Rattle.std.proofs.Common.{◌≡◌, ℕ, ◌<◌, ◌≤◌, List, [], length, Some, None, Option, sym, refl, ap, ◌∙◌, subst, ap₂, arith}
+use Rattle.std.proofs.Common.{◌≡◌, ℕ, ◌≤◌, List, [], length, None, sym, ap, ◌∙◌, ap₂, arith}
 use Rattle.graph_file.specs.Encoding.{FileOrder, layout_of}
 use Rattle.graph_file.specs.Layout.{file_bytes}
 use Rattle.graph_reader.specs.Bytes.{told_count}
@@ -12,23 +12,23 @@ use Rattle.history.specs.History.{Commit, Wellformed, parent_total}
 use Rattle.history.specs.Model.{Model}
 use Rattle.history.proofs.Commits.{represented_length}
 use Rattle.loading.specs.Loads.{load_refusal}
-use Rattle.loading.proofs.Refusing.{Loadable, not_refused}
+use Rattle.loading.proofs.Refusing.{not_refused}
 
 module _ {K L : Type 0} {kind : Ghosts K L} (start : ℕ → ℕ → L) (grown : L → L → L) (m : Model) (g : CommitGraph K L kind) (s : Represents start grown m g) (file : List ℕ) (queue places : ℕ) where
   -- the tables are tested as the model says
   pub model_refusal : load_refusal g.count (capacity g) (parent_capacity g) file queue places ≡ load_refusal (length m.commits) m.capacity m.parent_capacity file queue places
   model_refusal =
       ap (λ n. load_refusal n (capacity g) (parent_capacity g) file queue places) (sym (represented_length start grown m g s))
-      ∙ ap₂ (λ a b. load_refusal (length m.commits) a b file queue places) s.filled.room s.filled.parent_room
+      ∙ ap₂ (λ a b. load_refusal (length m.commits) a b file queue places) s.room s.parent_room
 
   -- the file of a history for which there is room is not refused
   module _ (h : List Commit) (order : List ℕ) (e : m.commits ≡ []) (w : Wellformed h) (o : FileOrder h order) (is : file ≡ file_bytes (layout_of h order))
       (commits : length h ≤ m.capacity) (parents : parent_total h ≤ m.parent_capacity) (queues : length h ≤ queue) (numbers : length h ≤ places) where
     few : length h ≤ 65536
-    few = omega (arith, s.filled.room)
+    few = omega (arith, s.room)
 
     listed : parent_total h ≤ 262144
-    listed = omega (arith, s.filled.parent_room)
+    listed = omega (arith, s.parent_room)
 
     pub file_count : told_count file ≡ length h
     unfolding few listed

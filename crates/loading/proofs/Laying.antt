@@ -1,18 +1,18 @@
 -- The order by id, put right behind the commits of a load. Assumes nothing.
-use Rattle.std.proofs.Common.{◌≡◌, ℕ, ◌-◌, ◌<◌, ◌≤◌, true, List, [], length, get_or, take, drop, sym, refl, ap, ◌∙◌, subst, ap₂, subst₂, arith}
-use Rattle.std.proofs.lemmas.List.{length-take-le, get_or-take}
+use Rattle.std.proofs.Common.{◌≡◌, ℕ, ◌<◌, ◌≤◌, true, List, [], length, get_or, take, drop, sym, ap, ◌∙◌, subst, ap₂, subst₂, arith}
 use Rattle.frontier.specs.declared.elements.ByLevel.{ByLevel}
 use Rattle.graph_file.specs.Encoding.{FileOrder}
 use Rattle.graph_reader.specs.Bytes.{told_count}
 use Rattle.labels.specs.declared.kind.LabelKind.{Ghosts}
 use Rattle.history.specs.declared.graph.CommitGraph.{CommitGraph}
 use Rattle.history.specs.Graph.{Filled, Represents}
-use Rattle.history.specs.History.{Commit, parent_total}
+use Rattle.history.specs.History.{parent_total}
 use Rattle.history.specs.Ids.{precedes}
 use Rattle.history.specs.Model.{Model}
 use Rattle.history.specs.Room.{Reordered}
-use Rattle.history.specs.Tables.{row_of, Rising, Complete}
-use Rattle.history.proofs.Commits.{filled_length, filled_at}
+use Rattle.history.specs.Tables.{Rising, Complete}
+use Rattle.graph_file.proofs.FileOrders.{order_unique}
+use Rattle.history.proofs.Commits.{filled_of, filled_length, filled_at}
 use Rattle.loading.specs.Filling.{Grown, Admitted, holding}
 use Rattle.loading.specs.Loads.{Loaded}
 use Rattle.loading.proofs.Unique.{described_unique}
@@ -64,12 +64,13 @@ module _ {K L : Type 0} {kind : Ghosts K L} (start : ℕ → ℕ → L) (grown :
         later_queue = a.queue_rest;
         later_places = a.places_rest;
         history = λ m s.
-            let q = a.filled m s.filled (empty m s.filled) in
+            let f = filled_of start grown m g s in
+            let q = a.filled m f (empty m f) in
             let o = subst (FileOrder q.0) (sym is) q.2.ordered in
             let few : length q.0 ≤ 65536 = omega (arith, filled_length start grown (holding m q.0) h q.1, h.few) in
             let short : parent_total q.0 ≤ 262144 = omega (arith, q.1.listed, h.short) in (
               q.0,
               represents (holding m q.0) q.1 (order_rises start grown (holding m q.0) h q.1 list o) (order_complete start grown (holding m q.0) h q.1 list o),
-              record { described = q.2; few = few; listed = short; sole = λ h' order' few' short' d. described_unique file h' q.0 order' (take (told_count file) places') few' short' few short d q.2 },
+              record { described = q.2; few = few; listed = short; filed_once = λ order' o'. order_unique q.0 order' (take (told_count file) places') o' q.2.ordered; sole = λ h' order' few' short' d. described_unique file h' q.0 order' (take (told_count file) places') few' short' few short d q.2 },
             );
       }

@@ -1,7 +1,7 @@
 -- A load from commit to commit. Assumes nothing.
 use Rattle.std.proofs.Common.{◌≡◌, ℕ, ◌+◌, ◌-◌, ◌<◌, ◌≤◌, List, [], ◌∷◌, ◌++◌, length, get_or, take, drop, set, None, sum_by, sym, refl, ap, ◌∙◌, subst, arith}
 use Rattle.std.proofs.lemmas.List.Sums.{sum_by-cons}
-use Rattle.std.proofs.lemmas.List.{length-set, drop-set-lt, length_push}
+use Rattle.std.proofs.lemmas.List.{length-drop, length-set, drop-set-lt, length_push}
 use Rattle.frontier.specs.declared.elements.ByLevel.{ByLevel}
 use Rattle.frontier.specs.Heaps.{TakenOut}
 use Rattle.graph_reader.specs.Bytes.{told_count}
@@ -24,23 +24,27 @@ use Rattle.loading.proofs.Takes.{taken_sum}
 outside_on : {X : Type 0} (a b c : List X) (n m from to : ℕ) → n ≤ to → to ≡ m → drop n b ≡ drop n a → Outside b c from to → drop m c ≡ drop m a
 outside_on a b c n m from to le e p o = subst (λ k. drop k c ≡ drop k a) e (o.behind ∙ drop_later n to b a le p)
 
+-- and as long, where both reach as far as what was written
+outside_long : {X : Type 0} (a b : List X) (from to : ℕ) → Outside a b from to → to ≤ length a → to ≤ length b → length b ≡ length a
+outside_long a b from to o l m = omega (arith, sym (length-drop to b) ∙ ap length o.behind ∙ length-drop to a)
+
 module _ {K L : Type 0} {kind : Ghosts K L} where
   pub grown_none : (g : CommitGraph K L kind) → Grown g g
   grown_none g =
       record { rows = refl; labels = refl; order = refl; parents = refl; row_room = refl; label_room = refl; order_room = refl; parent_room = refl }
 
-  pub grown_more : (g₀ g g' : CommitGraph K L kind) (size : ℕ) → Grown g₀ g → Appended g g' size → Grown g₀ g'
-  unfolding outside_on
-  grown_more g₀ g g' size s a =
+  pub grown_more : (g₀ g g' : CommitGraph K L kind) (size : ℕ) → Grown g₀ g → g.count < capacity g → g.used + size ≤ parent_capacity g → Appended g g' size → Grown g₀ g'
+  unfolding outside_on outside_long
+  grown_more g₀ g g' size s room parent_room a =
       record {
         rows = outside_on _ _ _ g.count g'.count g.count (g.count + 1) (omega arith) (sym a.count) s.rows a.rows;
         labels = outside_on _ _ _ g.count g'.count g.count (g.count + 1) (omega arith) (sym a.count) s.labels a.labels;
         order = outside_on _ _ _ g.count g'.count 0 (g.count + 1) (omega arith) (sym a.count) s.order a.order;
         parents = outside_on _ _ _ g.used g'.used g.used (g.used + size) (omega arith) (sym a.used) s.parents a.parents;
-        row_room = a.rows.long ∙ s.row_room;
-        label_room = a.labels.long ∙ s.label_room;
-        order_room = a.order.long ∙ s.order_room;
-        parent_room = a.parents.long ∙ s.parent_room;
+        row_room = outside_long _ _ g.count (g.count + 1) a.rows (omega arith) (omega (arith, a.count, g'.rowed)) ∙ s.row_room;
+        label_room = outside_long _ _ g.count (g.count + 1) a.labels (omega arith) (omega (arith, a.count, g'.labelled)) ∙ s.label_room;
+        order_room = outside_long _ _ 0 (g.count + 1) a.order (omega arith) (omega (arith, a.count, g'.listed)) ∙ s.order_room;
+        parent_room = outside_long _ _ g.used (g.used + size) a.parents (omega arith) (omega (arith, a.used, g'.parented)) ∙ s.parent_room;
       }
 
   pub grown_capacity : (g₀ g : CommitGraph K L kind) → Grown g₀ g → capacity g ≡ capacity g₀
@@ -132,7 +136,7 @@ module _ {K L : Type 0} {kind : Ghosts K L} (start : ℕ → ℕ → L) (grown :
             long = omega (arith, length_push s.done p, s.long);
             held = omega (arith, a.count, s.held);
             weighed = omega (arith, a.used, weight, s.weighed, ap (λ k. sum_by (listed_by file) (take k new)) fewer);
-            tables = grown_more g₀ g g' _ s.tables a;
+            tables = grown_more g₀ g g' _ s.tables next_fits.room next_fits.parent_room a;
             queue_rest = drop_later (n - number) n new old (omega arith) rest ∙ s.queue_rest;
             places_rest = ap (drop n) put ∙ drop-set-lt n places p g.count within ∙ s.places_rest;
             places_long = ap length put ∙ length-set places p g.count ∙ s.places_long;

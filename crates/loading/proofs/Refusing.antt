@@ -5,10 +5,12 @@ use Rattle.std.proofs.lemmas.Bool.{or_parts, ltb-false, lt-ltb, le-ltb, cond-tru
 use Rattle.graph_reader.specs.Bytes.{told_count}
 use Rattle.graph_reader.specs.Faults.{either}
 use Rattle.graph_reader.specs.Verdict.{file_fault, parents_in, total_of}
-use Rattle.graph_reader.proofs.Options.{either_none, cond_none}
+use Rattle.graph_reader.proofs.Options.{either_none, mapped_none, cond_none}
 use Rattle.history.specs.declared.load_fault.LoadFault.{LoadFault}
 use Rattle.history.specs.declared.refusal.Refusal.{Refusal}
-use Rattle.history.specs.declared.refusal.Refusal.TheVariants.{CapacityPassed, ParentCapacityPassed, BufferTooShort, HistoryNotEmpty, FileFault}
+use Rattle.history.specs.declared.refusal.Refusal.TheVariants.{CapacityPassed, ParentCapacityPassed, BufferTooShort}
+use Rattle.loading.specs.declared.refusal.LoadRefusal.{LoadRefusal}
+use Rattle.loading.specs.declared.refusal.LoadRefusal.TheVariants.{HistoryNotEmpty, FileFault, Refused}
 use Rattle.loading.specs.Loads.{room_refusal, load_refusal}
 
 -- there is room for the commits, their parents and the buffers
@@ -38,11 +40,11 @@ module _ (capacity parent_capacity commits parents queue places : ℕ) where
       ∙ cond-false _ _ _ (ap₂ ◌||◌ (le-ltb queue commits r.queue_room) (le-ltb places commits r.place_room))
 
 module _ (held capacity parent_capacity : ℕ) (file : List ℕ) (queue places : ℕ) where
-  abbrev verdict : Option Refusal
+  abbrev verdict : Option LoadRefusal
   verdict = load_refusal held capacity parent_capacity file queue places
 
-  abbrev rooms : Option Refusal
-  rooms = room_refusal capacity parent_capacity (told_count file) (total_of (parents_in file)) queue places
+  abbrev rooms : Option LoadRefusal
+  rooms = option_map Refused (room_refusal capacity parent_capacity (told_count file) (total_of (parents_in file)) queue places)
 
   pub refused_held : 0 < held → Some HistoryNotEmpty ≡ verdict
   unfolding load_refusal
@@ -53,6 +55,12 @@ module _ (held capacity parent_capacity : ℕ) (file : List ℕ) (queue places :
   unfolding load_refusal
   refused_file le fault e =
       ap (λ x. either (option_map FileFault x) rooms) e ∙ sym (cond-false _ (Some HistoryNotEmpty) _ (le-ltb 0 held le))
+
+  -- and what want of room does, where the file has no fault
+  pub refused_room : held ≤ 0 → None ≡ file_fault file → (wanting : Option Refusal) →
+      wanting ≡ room_refusal capacity parent_capacity (told_count file) (total_of (parents_in file)) queue places → option_map Refused wanting ≡ verdict
+  unfolding refused_file
+  refused_room le fine wanting e = ap (option_map Refused) e ∙ refused_file le None fine
 
   pub record Loadable : Type 0 where
     pub empty : held ≡ 0
@@ -67,11 +75,11 @@ module _ (held capacity parent_capacity : ℕ) (file : List ℕ) (queue places :
       record {
         empty = omega (arith, ltb-false 0 held a.0);
         fine = b.0;
-        room = room_known capacity parent_capacity (told_count file) (total_of (parents_in file)) queue places b.1;
+        room = room_known capacity parent_capacity (told_count file) (total_of (parents_in file)) queue places (mapped_none Refused _ b.1);
       }
 
   pub not_refused : Loadable → verdict ≡ None
   unfolding load_refusal room_suffices
   not_refused l =
       cond-false _ _ _ (le-ltb 0 held (omega (arith, l.empty))) ∙ ap (λ x. either (option_map FileFault x) rooms) l.fine
-      ∙ room_suffices capacity parent_capacity (told_count file) (total_of (parents_in file)) queue places l.room
+      ∙ ap (option_map Refused) (room_suffices capacity parent_capacity (told_count file) (total_of (parents_in file)) queue places l.room)

@@ -1,13 +1,13 @@
 -- One position more that waits, and one that is taken out. Assumes nothing.
-use Rattle.std.proofs.Common.{◌≡◌, ℕ, ◌+◌, ◌-◌, ◌<◌, ◌≤◌, Bool, true, false, ◌⊎◌, List, ◌∷◌, length, get_or, take, sum_by, sym, refl, ap, ◌∙◌, subst, inl, inr, ⊎_elim, arith}
+use Rattle.std.proofs.Common.{◌≡◌, ℕ, ◌+◌, ◌-◌, ◌<◌, ◌≤◌, true, ◌⊎◌, List, ◌∷◌, length, take, sum_by, sym, refl, ap, ◌∙◌, subst, inl, inr, ⊎_elim, arith}
 use Rattle.std.specs.List.Sorted.{IsPermutation}
 use Rattle.std.proofs.lemmas.List.Sorted.{sum_by-IsPermutation}
 use Rattle.std.proofs.lemmas.Bool.{cases_eq}
 use Rattle.frontier.specs.declared.elements.ByLevel.{ByLevel}
-use Rattle.frontier.specs.Heaps.{Among, Distinct, Queued, TakenOut}
+use Rattle.frontier.specs.Heaps.{Among, Queued, TakenOut}
 use Rattle.frontier.proofs.Fronts.{queued_none}
 use Rattle.frontier.proofs.Members.{distinct_none, among_more, among_less, distinct_more, distinct_less, taken_gone}
-use Rattle.loading.specs.Waiting.{by_level, key, listed_by, Waits, AllWait}
+use Rattle.loading.specs.Waiting.{by_level, key, Waits, AllWait}
 
 module _ (file : List ℕ) where
   pub none_wait : (queue : List ByLevel) → AllWait file 0 queue

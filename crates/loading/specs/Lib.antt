@@ -1,3 +1,4 @@
+pub mod Refusals
 pub mod Described
 pub mod Waiting
 pub mod Filling

@@ -1,5 +1,5 @@
 -- The queue of a load: the file positions that wait to be numbered. Assumes nothing.
-use Rattle.std.specs.Prelude.{◌≡◌, ℕ, ◌<◌, ◌≤◌, Bool, List, length, take, sum_by}
+use Rattle.std.specs.Prelude.{◌≡◌, ℕ, ◌<◌, ◌≤◌, Bool, List, length}
 use Rattle.frontier.specs.declared.elements.ByLevel.{ByLevel}
 use Rattle.frontier.specs.Heaps.{Among, Distinct, Queued}
 use Rattle.frontier.specs.Orders.{lexical}

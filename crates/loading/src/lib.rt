@@ -5,7 +5,9 @@ mod admit;
 mod checked_file;
 mod loader;
 mod queue;
+mod refusal;
 mod room;
 mod source;
 
 pub use loader::load;
+pub use refusal::LoadRefusal;

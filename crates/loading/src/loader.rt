@@ -12,9 +12,10 @@ ghost use Rattle.loading.specs.Loads.{load_reply, Loaded};
 use crate::admit::admit_all;
 use crate::checked_file::CheckedFile;
 use crate::queue::queue_all;
+use crate::refusal::LoadRefusal;
 use crate::room::refuse;
 use frontier::ByLevel;
-use history::{CommitGraph, Refusal};
+use history::CommitGraph;
 use labels::LabelKind;
 
 // Admits all commits of a file for which there is room, and puts the order by id right: the file has the ids in their order.
@@ -40,7 +41,7 @@ pub fn load<K: LabelKind>(
     file: &[u8],
     queue: &mut [ByLevel],
     places: &mut [u32],
-) -> Result<usize, Refusal>
+) -> Result<usize, LoadRefusal>
     ensures reply { (m : Model) → Represents K.LabelKind.start K.LabelKind.grown m graph.old → result ≡ load_reply m file.now (length queue.old) (length places.old) }
     ensures loaded { MatchResult result (λ _. Loaded K.LabelKind.start K.LabelKind.grown file.now graph.old graph.new queue.old queue.new places.old places.new) (λ _. (graph.new ≡ graph.old) × (queue.new ≡ queue.old) × (places.new ≡ places.old)) }
     ensures accepts { (m : Model) (h : List Commit) (order : List ℕ) → Represents K.LabelKind.start K.LabelKind.grown m graph.old → m.commits ≡ [] → Wellformed h → FileOrder h order → file.now ≡ file_bytes (layout_of h order) → length h ≤ m.capacity → parent_total h ≤ m.parent_capacity → length h ≤ length queue.old → length h ≤ length places.old → result ≡ Ok (length h) }

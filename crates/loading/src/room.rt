@@ -6,6 +6,7 @@ ghost use Rattle.history.specs.Graph.{capacity, parent_capacity};
 ghost use Rattle.loading.specs.Loads.{room_refusal, load_refusal};
 
 use crate::checked_file::CheckedFile;
+use crate::refusal::LoadRefusal;
 use graph_reader::fault_of;
 use history::{CommitGraph, Refusal};
 use labels::LabelKind;
@@ -38,14 +39,17 @@ pub(crate) fn refuse<K: LabelKind>(
     file: &[u8],
     queue: usize,
     places: usize,
-) -> Option<Refusal>
+) -> Option<LoadRefusal>
     ensures { result ≡ load_refusal graph.now.count (capacity graph.now) (parent_capacity graph.now) file.now queue places }
 {
     if 0 < graph.held() {
-        return Some(Refusal::HistoryNotEmpty);
+        return Some(LoadRefusal::HistoryNotEmpty);
     }
     if let Some(fault) = fault_of(file) {
-        return Some(Refusal::FileFault(fault));
+        return Some(LoadRefusal::FileFault(fault));
     }
-    lacks_room(graph, &CheckedFile::over(file), queue, places)
+    if let Some(refusal) = lacks_room(graph, &CheckedFile::over(file), queue, places) {
+        return Some(LoadRefusal::Refused(refusal));
+    }
+    None
 }

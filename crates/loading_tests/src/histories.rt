@@ -3,7 +3,7 @@ use frontier::ByLevel;
 use graph_file::write;
 use history::{CommitGraph, CommitRow, ObjectId, Refusal};
 use labels::{Level, Stepped};
-use loading::load;
+use loading::{LoadRefusal, load};
 
 type Levels = Stepped<Level>;
 
@@ -51,7 +51,7 @@ pub fn write_loaded(
     file: &[u8],
     places: &mut [u32],
     again: &mut [u8],
-) -> Result<(usize, usize), Refusal> {
+) -> Result<(usize, usize), LoadRefusal> {
     let mut rows = [empty_row(); 7];
     let mut labels = [0; 7];
     let mut order = [0; 7];
@@ -62,5 +62,8 @@ pub fn write_loaded(
         position: 0,
     };
     let count = load(&mut graph, file, &mut [entry; 7], places)?;
-    Ok((count, write(&graph, again)?))
+    match write(&graph, again) {
+        Ok(length) => Ok((count, length)),
+        Err(refusal) => Err(LoadRefusal::Refused(refusal)),
+    }
 }

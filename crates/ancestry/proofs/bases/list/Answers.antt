@@ -1,4 +1,4 @@
-use Rattle.std.proofs.Common.{◌≡◌, ℕ, ◌+◌, ◌<◌, ◌≤◌, sym, refl, ap, ◌∙◌, subst, subst₂, arith}
+use Rattle.std.proofs.Common.{◌+◌, sym, subst, subst₂, arith}
 use Rattle.history.proofs.Commits.{graph_falling}
 use Rattle.history.specs.Graph.{history}
 use Rattle.ancestry.proofs.Listings.{Listing, listing_begins, listing_more, listing_same, listing_ends}

@@ -1,4 +1,4 @@
-use Rattle.std.proofs.Common.{◌≡◌, ℕ, ◌+◌, max, length, Some, None, Err, Option, sym, refl, ap, ◌∙◌, subst, ap₂, arith, rules}
+use Rattle.std.proofs.Common.{◌≡◌, ℕ, ◌+◌, max, length, Some, None, Err, Option, sym, refl, ◌∙◌, subst, ap₂, rules}
 use Rattle.history.specs.Graph.{history}
 use Rattle.history.specs.declared.refusal.Refusal.{Refusal}
 use Rattle.history.proofs.Commits.{represented_length, graph_length}

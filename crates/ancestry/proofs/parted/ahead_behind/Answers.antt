@@ -1,4 +1,4 @@
-use Rattle.std.proofs.Common.{◌≡◌, ℕ, ◌+◌, length, sym, refl, ap, ◌∙◌, subst, ap₂}
+use Rattle.std.proofs.Common.{◌+◌, length, sym, refl, ◌∙◌, subst, ap₂}
 use Rattle.history.proofs.Commits.{represented_length}
 use Rattle.ancestry.specs.Ancestry.{Parted}
 use Rattle.ancestry.specs.Refusing.{walk_refusal, Cleared}

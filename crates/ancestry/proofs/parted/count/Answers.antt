@@ -1,4 +1,4 @@
-use Rattle.std.proofs.Common.{◌≡◌, ℕ, suc, ◌+◌, ◌<◌, ◌≤◌, length, sym, refl, ap, ◌∙◌, subst, subst₂, add-one, arith}
+use Rattle.std.proofs.Common.{sym, subst, subst₂, add-one, arith}
 use Rattle.history.proofs.Commits.{graph_length, graph_falling}
 use Rattle.history.specs.Graph.{history}
 use Rattle.ancestry.proofs.Counts.{Counting, counting_begins, counting_left, counting_right, counting_else, counting_ends}

@@ -1,6 +1,6 @@
-use Rattle.std.proofs.Common.{◌≡◌, ℕ, ◌-◌, ◌<◌, ◌≤◌, length, get_or, sym, refl, ap, ◌∙◌, subst, arith, rules}
+use Rattle.std.proofs.Common.{◌-◌, ◌≤◌, length, get_or, sym, ap, ◌∙◌, subst, arith, rules}
 use Rattle.history.proofs.Commits.{graph_falling}
-use Rattle.ancestry.specs.Painting.{Tidy, all_laid}
+use Rattle.ancestry.specs.Painting.{all_laid}
 use Rattle.ancestry.specs.Paints.{is_left, is_right, is_both, passed}
 use Rattle.ancestry.proofs.Bits.{clear_zero, passed_painted}
 use Rattle.ancestry.proofs.Laying.{left_leaves, right_leaves, both_leaves}

@@ -1,5 +1,5 @@
-use Rattle.std.proofs.Common.{◌≡◌, ℕ, sym, refl, ap, ◌∙◌, arith}
-use Rattle.ancestry.specs.declared.paint.Paint.TheVariants.{Clear, Left, Right}
+use Rattle.std.proofs.Common.{ap, ◌∙◌, arith}
+use Rattle.ancestry.specs.declared.paint.Paint.TheVariants.{Right}
 use Rattle.ancestry.specs.Painting.{laid}
 use Rattle.ancestry.specs.Paints.{byte_of}
 use Rattle.ancestry.proofs.Tidying.{tidy_start}

@@ -1,4 +1,4 @@
-use Rattle.std.proofs.Common.{◌≡◌, ℕ, ◌+◌, ◌-◌, ◌<◌, ◌≤◌, ◌∷◌, length, get_or, take, set, sym, refl, ap, ◌∙◌, subst, ap₂, subst₂, add-zero, arith, rules}
+use Rattle.std.proofs.Common.{◌≡◌, ℕ, ◌+◌, ◌-◌, ◌≤◌, ◌∷◌, get_or, take, set, sym, ap, ◌∙◌, subst, ap₂, subst₂, add-zero, arith, rules}
 use Rattle.frontier.specs.Heaps.{Queued}
 use Rattle.ancestry.specs.declared.paint.Paint.{Paint}
 use Rattle.ancestry.specs.declared.waiting.Front.{Front}

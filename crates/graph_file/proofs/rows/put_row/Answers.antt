@@ -33,7 +33,7 @@ returns g c = λ h order s.
     row.tree.bytes c.first_word.result c.second_word.result c.generation_word.result c.date_word.result
     (filed_wide b h order s n row held is) (omega arith) (omega arith) c.put_bytes.ensures c.put_word.ensures c.put_word-2.ensures c.put_word-3.ensures c.put_word-4.ensures
     ∙ ap (λ r. placed d at (row_bytes r))
-    (same_row h order n start row.tree.bytes c.first_word.result c.second_word.result c.generation_word.result c.date_word.result
+    (same_row
     (filed_tree b h order s n row held is)
     (c.first_word.ensures h order s ∙ ap (first_word order) ps)
     (c.second_word.ensures h order s ∙ ap (second_word order start) ps)

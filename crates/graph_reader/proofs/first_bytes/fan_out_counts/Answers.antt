@@ -11,8 +11,8 @@ begun_most (id ∷ ids) i =
     let rest = begun_most ids i in
     cond_both (eqb (get_or id 0 0) i) 1 0 (λ n. n + begun_by ids i ≤ length (id ∷ ids)) (λ _. omega arith) (λ _. omega arith)
 
-pub sum-up-requires : goal.sum-up-requires
-sum-up-requires c = λ i lt.
+pub sum_up-requires : goal.sum_up-requires
+sum_up-requires c = λ i lt.
     let chunk = c.args.chunk.now.bytes.now in
     let count = c.args.count in
     omega (arith, c.tally.ensures i lt, begun_most (ids_in chunk count) i, length-map-range_with_len (id_at chunk) 0 count, c.requires.few)

@@ -1,4 +1,4 @@
-use Rattle.std.proofs.Common.{◌≡◌, ◌+◌, ◌*◌, ◌≤◌, get_or, sym, refl, ◌∙◌, arith}
+use Rattle.std.proofs.Common.{◌+◌, ◌*◌, get_or, refl, ◌∙◌, arith}
 use Rattle.std.proofs.lemmas.List.{length-set}
 use Rattle.graph_reader.proofs.FirstBytes.{none_counted, tally_more, tally_most}
 use Rattle.graph_reader.proofs.first_bytes.tally.Goals as goal
@@ -6,8 +6,8 @@ use Rattle.graph_reader.proofs.first_bytes.tally.Goals as goal
 pub loop-p-init : goal.loop-p-init
 loop-p-init c = (refl, λ i lt. none_counted i, λ i. omega (arith, none_counted i))
 
-pub overflow-add-counts : goal.overflow-add-counts
-overflow-add-counts c = omega (arith, c.loop-p.invariant.2 (get_or c.args.chunk.now.bytes.now (20 * c.loop-p.p) 0), c.requires.few)
+pub overflow_add-counts : goal.overflow_add-counts
+overflow_add-counts c = omega (arith, c.loop-p.invariant.2 (get_or c.args.chunk.now.bytes.now (20 * c.loop-p.p) 0), c.requires.few)
 
 pub loop-p-preserved : goal.loop-p-preserved
 loop-p-preserved c =

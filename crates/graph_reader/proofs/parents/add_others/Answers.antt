@@ -7,14 +7,14 @@ use Rattle.graph_reader.proofs.parents.add_others.Goals.{else-second-next-via-th
 
 pub returns-then-next-file : goal.returns-then-next-file
 returns-then-next-file c =
-    c.add-listed.ensures
+    c.add_listed.ensures
     ∙ ap (behind (listed c.args.list)) (sym (others_listed c.args.file.now c.args.position c.args.next c.second-second.result c.second-second.ensures
-    c.if-second-eq-NO-PARENT.false c.if-second-file.false c.if-second-next.true c.if-next-file.true))
+    c.if-second-eq-NO_PARENT.false c.if-second-file.false c.if-second-next.true c.if-next-file.true))
 
 pub returns : goal.returns
 returns c =
     ap (behind (listed c.args.list)) (sym (others_wrong c.args.file.now c.args.position c.args.next c.second-second.result c.second-second.ensures
-    c.if-second-eq-NO-PARENT.false c.if-second-file.false
+    c.if-second-eq-NO_PARENT.false c.if-second-file.false
     (elim c.else-second-next.branch [
       | else-second-next-via-then-second-next+else-next-file w ↦ inr w.if-next-file.false
       | else-second-next-via-else-second-next w ↦ inl w.if-second-next.false

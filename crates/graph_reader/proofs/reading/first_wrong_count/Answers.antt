@@ -9,5 +9,5 @@ pub returns : goal.returns
 returns c =
     let f = c.args.parts.now in
     let h = c.requires.held in
-    c.first-wrong.ensures (ids_in f.ids.bytes.now f.count) c.fan-out-counts.ensures
-    ∙ ap₂ (λ at ids. first_failing (fan_out_tests (between at (at + 1024) c.args.file.now) at ids)) c.chunks-begin-begin.ensures (ap₂ ids_in h.ids h.count)
+    c.first_wrong.ensures (ids_in f.ids.bytes.now f.count) c.fan_out_counts.ensures
+    ∙ ap₂ (λ at ids. first_failing (fan_out_tests (between at (at + 1024) c.args.file.now) at ids)) c.chunks_begin-begin.ensures (ap₂ ids_in h.ids h.count)

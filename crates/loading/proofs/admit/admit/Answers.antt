@@ -1,4 +1,4 @@
-use Rattle.std.proofs.Common.{◌≡◌, ℕ, ◌+◌, ◌-◌, ◌<◌, ◌≤◌, List, map, length, get_or, take, set, None, sym, refl, ap, ◌∙◌, subst, ap₂, arith}
+use Rattle.std.proofs.Common.{◌≡◌, ℕ, ◌-◌, ◌<◌, ◌≤◌, List, map, length, get_or, take, set, None, sym, ap, ◌∙◌, subst, arith}
 use Rattle.std.proofs.lemmas.List.{length-map, get_or-map}
 use Rattle.graph_reader.specs.FileCommits.{file_commit, renumbered}
 use Rattle.graph_reader.specs.Holding.{listed}
@@ -9,8 +9,8 @@ use Rattle.history.specs.Room.{Appended}
 use Rattle.loading.proofs.Lists.{same_commit}
 use Rattle.loading.proofs.admit.admit.Goals as goal
 
-pub numbers-of-numbers-requires : goal.numbers-of-numbers-requires
-numbers-of-numbers-requires g c κs j lt =
+pub numbers_of-numbers-requires : goal.numbers_of-numbers-requires
+numbers_of-numbers-requires g c j lt =
     let is = c.parents-list.ensures in
     subst (λ ps. get_or ps j 0 < length c.args.places.now) (sym is) (omega (arith, c.requires.long, c.requires.listed j (omega (arith, ap length is))))
 
@@ -20,13 +20,13 @@ its_numbers : (list numbers positions places : List ℕ) (n : ℕ) → n ≡ len
 its_numbers list numbers positions places n e t is =
     ap (λ k. take k numbers) (let z : n - 0 ≡ length list = omega arith in z) ∙ t ∙ ap (map (λ q. get_or places q 0)) is
 
-pub append-unordered-number-requires : goal.append-unordered-number-requires
+pub append_unordered-number-requires : goal.append_unordered-number-requires
 unfolding its_numbers
-append-unordered-number-requires g c =
+append_unordered-number-requires g c =
     let file = c.args.source.now.file.now in
     let ps = (file_commit file c.args.position).parents in
     let f : ℕ → ℕ = λ q. get_or c.args.places.now q 0 in
-    let are = its_numbers (listed c.parents-list.result) c.numbers-of-numbers.result ps c.args.places.now c.len.result c.len.ensures c.numbers-of-numbers.ensures c.parents-list.ensures in
+    let are = its_numbers (listed c.parents-list.result) c.numbers_of-numbers.result ps c.args.places.now c.len.result c.len.ensures c.numbers_of-numbers.ensures c.parents-list.ensures in
     let long = ap length are ∙ length-map ps f in
     record {
       fits = record {
@@ -48,14 +48,14 @@ returns g c =
     let p = c.args.position in
     let ps = (file_commit file p).parents in
     let f : ℕ → ℕ = λ q. get_or c.args.places.now q 0 in
-    let are = its_numbers (listed c.parents-list.result) c.numbers-of-numbers.result ps c.args.places.now c.len.result c.len.ensures c.numbers-of-numbers.ensures c.parents-list.ensures in
-    let done = c.append-unordered-number.ensures in
-    let given : Commit = record { id = c.id.result.bytes; tree = c.tree.result.bytes; date = c.date.result; parents = take (c.len.result - 0) c.numbers-of-numbers.result } in
+    let are = its_numbers (listed c.parents-list.result) c.numbers_of-numbers.result ps c.args.places.now c.len.result c.len.ensures c.numbers_of-numbers.ensures c.parents-list.ensures in
+    let done = c.append_unordered-number.ensures in
+    let given : Commit = record { id = c.id.result.bytes; tree = c.tree.result.bytes; date = c.date.result; parents = take (c.len.result - 0) c.numbers_of-numbers.result } in
     let same : given ≡ renumbered c.args.places.now (file_commit file p) = same_commit c.id.ensures c.tree.ensures c.date.ensures are in
     record {
       places = ap (set c.args.places.now p) done.number;
-      tables = subst (Appended c.args.graph.now c.append-unordered-number.new.self) (ap length are ∙ length-map ps f) done.tables;
+      tables = subst (Appended c.args.graph.now c.append_unordered-number.new.self) (ap length are ∙ length-map ps f) done.tables;
       filled = λ m s fresh.
-          subst (λ x. Filled k.start k.grown (plus m x) c.append-unordered-number.new.self) same
+          subst (λ x. Filled k.start k.grown (plus m x) c.append_unordered-number.new.self) same
           (done.filled m s (subst (λ id. find_id m.commits id ≡ None) (sym c.id.ensures) fresh));
     }

@@ -12,8 +12,8 @@ loop-number-init g c =
     let k = g.K.LabelKind in
     (progress_none k.start k.grown c.args.source.now.file.now c.args.graph.now c.args.queue.now c.args.places.now c.requires.waiting c.requires.listed c.requires.room, omega arith)
 
-pub take-out-requires : goal.take-out-requires
-take-out-requires g c =
+pub take_out-requires : goal.take_out-requires
+take_out-requires g c =
     let s = c.loop-number.invariant.0 in
     let waits = s.numbered.waits in
     let is : told_count c.args.source.now.file.now - c.loop-number.number ≡ c.count-count.result - c.loop-number.number = omega (arith, c.count-count.ensures) in
@@ -22,8 +22,8 @@ take-out-requires g c =
       queued = subst (Queued by_level c.loop-number.queue) is waits.queued;
     }
 
-pub returns-in-default : goal.returns-in-default
-returns-in-default g c = absurd (omega (arith, c.in-default.ensures.cases.0, c.loop-number-test.true))
+pub returns-in_default : goal.returns-in_default
+returns-in_default g c = absurd (omega (arith, c.in_default.ensures.cases.0, c.loop-number-test.true))
 
 pub admit-requires : goal.admit-requires
 admit-requires g c =
@@ -33,11 +33,11 @@ admit-requires g c =
     let sound = file_sound source in
     let n = c.loop-number.number in
     let old = c.loop-number.queue in
-    let new = c.take-out.new.queue in
+    let new = c.take_out.new.queue in
     let x = c.in-Some.next in
     let t = subst (λ w. TakenOut by_level old new w x) (let z : c.count-count.result - n ≡ told_count file - n = omega (arith, c.count-count.ensures) in z) c.in-Some.ensures.cases in
     let s = c.loop-number.invariant.0 in
-    let long = c.take-out.auto.queue in
+    let long = c.take_out.auto.queue in
     let next = next_fits k.start k.grown file c.args.graph.now c.args.queue.now c.args.places.now sound c.requires.room c.loop-number.graph old new c.loop-number.places n x s long t in
     record {
       held = next.within;
@@ -56,13 +56,13 @@ loop-number-preserved g c =
     let file = source.file.now in
     let n = c.loop-number.number in
     let old = c.loop-number.queue in
-    let new = c.take-out.new.queue in
+    let new = c.take_out.new.queue in
     let x = c.in-Some.next in
     let is : c.count-count.result - n ≡ told_count file - n = omega (arith, c.count-count.ensures) in
     let t = subst (λ w. TakenOut by_level old new w x) is c.in-Some.ensures.cases in
     let rest = subst (λ w. drop w new ≡ drop w old) is c.in-Some.ensures.rest in (
       progress_more k.start k.grown file c.args.graph.now c.args.queue.now c.args.places.now (file_sound source) c.requires.room c.loop-number.graph old new c.loop-number.places n x
-          c.loop-number.invariant.0 c.take-out.auto.queue t c.admit.new.graph c.admit.new.places c.admit.ensures.places rest c.admit.ensures.tables c.admit.ensures.filled,
+          c.loop-number.invariant.0 c.take_out.auto.queue t c.admit.new.graph c.admit.new.places c.admit.ensures.places rest c.admit.ensures.tables c.admit.ensures.filled,
       omega (arith, c.count-count.ensures, c.loop-number-test.true),
     )
 

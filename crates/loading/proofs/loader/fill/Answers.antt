@@ -5,36 +5,36 @@ use Rattle.history.proofs.Commits.{filled_length}
 use Rattle.loading.proofs.Laying.{loaded}
 use Rattle.loading.proofs.loader.fill.Goals as goal
 
-pub admit-all-requires : goal.admit-all-requires
-admit-all-requires g c = record { waiting = c.queue-all.ensures.waiting; listed = c.queue-all.ensures.listed; room = c.requires.room }
+pub admit_all-requires : goal.admit_all-requires
+admit_all-requires g c = record { waiting = c.queue_all.ensures.waiting; listed = c.queue_all.ensures.listed; room = c.requires.room }
 
-pub put-order-requires : goal.put-order-requires
-put-order-requires g c =
+pub put_order-requires : goal.put_order-requires
+put_order-requires g c =
     let n = told_count c.args.source.now.file.now in
-    let places = c.admit-all.new.places in
+    let places = c.admit_all.new.places in
     let is : c.count.result - 0 ≡ n = omega (arith, c.count.ensures) in
-    let long : n ≤ length places = omega (arith, c.admit-all.auto.places, c.requires.room.place_room) in
-    let count = c.admit-all.ensures.count in
+    let long : n ≤ length places = omega (arith, c.admit_all.auto.places, c.requires.room.place_room) in
+    let count = c.admit_all.ensures.count in
     record {
       long = ap (λ k. length (take k places)) is ∙ length-take-le n places long ∙ sym count;
       held = λ i lt.
           let l : i < n = omega arith in
-          subst (λ x. x < c.admit-all.new.graph.count) (sym (ap (λ k. get_or (take k places) i 0) is ∙ get_or-take n places i 0 l)) (omega (arith, c.admit-all.ensures.numbers i l, count));
+          subst (λ x. x < c.admit_all.new.graph.count) (sym (ap (λ k. get_or (take k places) i 0) is ∙ get_or-take n places i 0 l)) (omega (arith, c.admit_all.ensures.numbers i l, count));
     }
 
 pub returns : goal.returns
 returns g c =
     let k = g.K.LabelKind in
     let file = c.args.source.now.file.now in
-    let places = c.admit-all.new.places in
+    let places = c.admit_all.new.places in
     let is : c.count.result - 0 ≡ told_count file = omega (arith, c.count.ensures) in
-    let l = loaded k.start k.grown file c.args.graph.now c.admit-all.new.graph c.put-order.new.self c.queue-all.new.queue c.admit-all.new.queue c.args.places.now places
-    (take (c.count.result - 0) places) c.admit-all.ensures (ap (λ n. take n places) is) c.put-order.ensures.tables c.put-order.ensures.represents
+    let l = loaded k.start k.grown file c.args.graph.now c.admit_all.new.graph c.put_order.new.self c.queue_all.new.queue c.admit_all.new.queue c.args.places.now places
+    (take (c.count.result - 0) places) c.admit_all.ensures (ap (λ n. take n places) is) c.put_order.ensures.tables c.put_order.ensures.represents
     (λ m s. nil_from_length m.commits (filled_length k.start k.grown m c.args.graph.now s ∙ c.requires.room.empty)) in
     record {
       count = l.count;
       tables = l.tables;
-      later_queue = l.later_queue ∙ c.queue-all.ensures.rest;
+      later_queue = l.later_queue ∙ c.queue_all.ensures.rest;
       later_places = l.later_places;
       history = l.history;
     }

@@ -12,13 +12,13 @@ use Rattle.loading.proofs.loader.load.Goals as goal
 pub over-source-requires : goal.over-source-requires
 over-source-requires g c =
     let b = c.args.graph.now in
-    (loadable b.count (capacity b) (parent_capacity b) c.args.file.now (length c.args.queue.now) (length c.args.places.now) (sym c.in-default.ensures)).fine
+    (loadable b.count (capacity b) (parent_capacity b) c.args.file.now (length c.args.queue.now) (length c.args.places.now) (sym c.in_default.ensures)).fine
 
 pub fill-requires : goal.fill-requires
 fill-requires g c =
     let b = c.args.graph.now in
     let file = c.args.file.now in
-    let l = loadable b.count (capacity b) (parent_capacity b) file (length c.args.queue.now) (length c.args.places.now) (sym c.in-default.ensures) in
+    let l = loadable b.count (capacity b) (parent_capacity b) file (length c.args.queue.now) (length c.args.places.now) (sym c.in_default.ensures) in
     let is = sym c.over-source.ensures in
     record {
       room = subst (λ f. Roomy f b c.args.places.now) is
@@ -48,7 +48,7 @@ returns g c =
     let file = c.args.file.now in
     let queue = length c.args.queue.now in
     let places = length c.args.places.now in
-    let fine = c.in-default.ensures in
+    let fine = c.in_default.ensures in
     let same = c.over-source.ensures in
     let count = c.count.ensures ∙ ap told_count same in
     record {

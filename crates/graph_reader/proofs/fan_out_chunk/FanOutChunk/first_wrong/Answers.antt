@@ -1,7 +1,6 @@
-use Rattle.std.proofs.Common.{◌≡◌, eqb, sym, refl, ap, ◌∙◌, ap₂, arith}
+use Rattle.std.proofs.Common.{sym, ◌∙◌, arith}
 use Rattle.std.proofs.lemmas.Bool.{eq-eqb, ne_eqb}
 use Rattle.graph_reader.specs.ChunkFaults.{fan_out_test, fan_out_tests}
-use Rattle.graph_reader.specs.Faults.{first_failing}
 use Rattle.graph_reader.proofs.Faulting.{test_passes, test_fails, tests_all}
 use Rattle.graph_reader.proofs.fan_out_chunk.FanOutChunk.first_wrong.Goals as goal
 

@@ -1,4 +1,3 @@
-use Rattle.std.proofs.Common.{◌≡◌, sym, ap, ◌∙◌}
 use Rattle.loading.proofs.Sources.{parts_held, no_fault}
 use Rattle.loading.proofs.checked_file.CheckedFile.parents.Goals as goal
 

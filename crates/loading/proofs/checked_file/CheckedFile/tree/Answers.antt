@@ -1,4 +1,3 @@
-use Rattle.std.proofs.Common.{◌≡◌, sym, ap, ◌∙◌}
 use Rattle.loading.proofs.Sources.{parts_held}
 use Rattle.loading.proofs.checked_file.CheckedFile.tree.Goals as goal
 

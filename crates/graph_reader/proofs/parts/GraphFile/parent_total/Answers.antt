@@ -1,10 +1,10 @@
 use Rattle.std.proofs.Common.{◌+◌, ◌≤◌, length, ap, ◌∙◌, arith, rules}
 use Rattle.graph_reader.specs.Verdict.{parents_in}
 use Rattle.graph_reader.proofs.PartsHeld.{length_listed, parents_told, all_long, total_more, total_all}
-use Rattle.graph_reader.proofs.graph_file.GraphFile.parent_total.Goals as goal
+use Rattle.graph_reader.proofs.parts.GraphFile.parent_total.Goals as goal
 
-pub overflow-add-total : goal.overflow-add-total
-overflow-add-total c =
+pub overflow_add-total : goal.overflow_add-total
+overflow_add-total c =
     let at = c.loop-position in
     let low : at.total + c.len-total.result ≤ 5000000 =
     omega (arith, at.invariant.0, c.loop-position-test.true, c.len-total.ensures, length_listed c.parents_of.result, c.args.self.now.few) in

@@ -1,7 +1,7 @@
 use Rattle.std.proofs.Common.{◌≡◌, ℕ, ◌*◌, ◌≤◌, List, take, Ok}
 use Rattle.graph_reader.specs.PartParents.{parents_of_all}
 use Rattle.graph_reader.specs.Verdict.{total_of}
-use Rattle.graph_reader.proofs.graph_file.GraphFile.parent_total.Given as goal
+use Rattle.graph_reader.proofs.parts.GraphFile.parent_total.Given as goal
 
 abbrev pub invariant-loop-position : goal.invariant-loop-position
 invariant-loop-position l =

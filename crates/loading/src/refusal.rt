@@ -1,0 +1,46 @@
+// Why a file cannot be loaded.
+ghost use Rattle.std.specs.Prelude.{◌≡◌};
+ghost use Rattle.loading.specs.Refusals.{load_refusal_number};
+
+use history::{LoadFault, Refusal};
+use std::fmt;
+
+#[derive(Clone, Copy)]
+pub enum LoadRefusal {
+    // the history holds a commit
+    HistoryNotEmpty,
+    // the file is not one that a history has
+    FileFault(LoadFault),
+    // there is no room for the file's commits or their parents, or the queue or the places are too short
+    Refused(Refusal),
+}
+
+impl LoadRefusal {
+    // The number by which a refusal is told to other programs.
+    pub fn number(self) -> u32
+        ensures { result ≡ load_refusal_number self }
+    {
+        match self {
+            LoadRefusal::HistoryNotEmpty => 10,
+            LoadRefusal::FileFault(fault) => fault.cause(),
+            LoadRefusal::Refused(refusal) => refusal.number(),
+        }
+    }
+}
+
+impl fmt::Display for LoadRefusal {
+    fn fmt<W: fmt::Write>(&self, f: &mut fmt::Formatter<W>) -> fmt::Result {
+        match *self {
+            LoadRefusal::HistoryNotEmpty => f.write_str("the history holds a commit already"),
+            LoadRefusal::FileFault(fault) => {
+                write!(
+                    f,
+                    "{fault}, layer {} place {}",
+                    fault.layer(),
+                    fault.place()
+                )
+            }
+            LoadRefusal::Refused(refusal) => write!(f, "{refusal}"),
+        }
+    }
+}
