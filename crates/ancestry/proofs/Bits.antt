@@ -1,10 +1,10 @@
 -- What paints tell, joined and handed on. Assumes nothing.
-use Rattle.std.proofs.Common.{◌≡◌, ℕ, ◌≤◌, true, false, ◌&&◌, ◌||◌, sym, refl, ap, ◌∙◌, ap₂, arith}
+use Rattle.std.proofs.Common.{◌≡◌, ℕ, ◌<◌, true, false, ◌&&◌, ◌||◌, sym, refl, ap, ◌∙◌, ap₂, arith}
 use Rattle.std.proofs.lemmas.Bool.Decides.{nat_tests}
 use Rattle.std.proofs.lemmas.Bool.{both_ways, or_parts, or_from}
 use Rattle.ancestry.specs.declared.paint.Paint.{Paint}
 use Rattle.ancestry.specs.declared.paint.Paint.TheVariants.{Clear, Left, Right, Both, Below}
-use Rattle.ancestry.specs.Paints.{byte_of, paint_of, left, right, below, joined, passed, is_left, is_right, is_both}
+use Rattle.ancestry.specs.Paints.{byte_of, paint_of, left, right, below, joined, passed}
 
 pub joined_bits : (x y : Paint) →
     (left (joined x y) ≡ (left x || left y)) × (right (joined x y) ≡ (right x || right y)) × (below (joined x y) ≡ (below x || below y))
@@ -67,13 +67,6 @@ joined_painted x y no-clear e =
     let r = or_parts (right x) (right y) (sym b.1 ∙ ap right e) in
     both_ways (left y || right y) (or_from (left y) (right y) l.1 r.1) (painted_bits y no-clear)
 
-pub byte_clear : (x : Paint) → byte_of x ≡ 0 → x ≡ Clear
-byte_clear Clear e = refl
-byte_clear Left e = absurd (omega arith)
-byte_clear Right e = absurd (omega arith)
-byte_clear Both e = absurd (omega arith)
-byte_clear Below e = absurd (omega arith)
-
 -- only the byte 0 is clear
 pub clear_zero : (x : ℕ) → paint_of x ≡ Clear → x ≡ 0
 clear_zero x e = grind (arith, nat_tests)
@@ -81,26 +74,19 @@ clear_zero x e = grind (arith, nat_tests)
 pub zero_clear : (x : ℕ) → x ≡ 0 → paint_of x ≡ Clear
 zero_clear x e = ap paint_of e
 
-pub is_left_most : (x : Paint) → is_left x ≤ 1
-is_left_most Clear = omega arith
-is_left_most Left = omega arith
-is_left_most Right = omega arith
-is_left_most Both = omega arith
-is_left_most Below = omega arith
+pub byte_small : (x : Paint) → byte_of x < 5
+byte_small Clear = omega arith
+byte_small Left = omega arith
+byte_small Right = omega arith
+byte_small Both = omega arith
+byte_small Below = omega arith
 
-pub is_right_most : (x : Paint) → is_right x ≤ 1
-is_right_most Clear = omega arith
-is_right_most Left = omega arith
-is_right_most Right = omega arith
-is_right_most Both = omega arith
-is_right_most Below = omega arith
-
-pub is_both_most : (x : Paint) → is_both x ≤ 1
-is_both_most Clear = omega arith
-is_both_most Left = omega arith
-is_both_most Right = omega arith
-is_both_most Both = omega arith
-is_both_most Below = omega arith
+pub byte_painted : (x : Paint) → (x ≡ Clear → ⊥) → 0 < byte_of x
+byte_painted Clear no-clear = absurd (no-clear refl)
+byte_painted Left no-clear = omega arith
+byte_painted Right no-clear = omega arith
+byte_painted Both no-clear = omega arith
+byte_painted Below no-clear = omega arith
 
 pub only_left : (x : Paint) → left x ≡ true → right x ≡ false → x ≡ Left
 only_left Clear l r = absurd (both_ways false refl l)
@@ -122,13 +108,3 @@ only_both Left l r b = absurd (both_ways false refl r)
 only_both Right l r b = absurd (both_ways false refl l)
 only_both Both l r b = refl
 only_both Below l r b = absurd (both_ways true b refl)
-
--- a paint that none of the counts counts
-pub no_left : (x : Paint) → is_left x ≡ 0 → x ≡ Left → ⊥
-no_left x e is = omega (arith, ap is_left is)
-
-pub no_right : (x : Paint) → is_right x ≡ 0 → x ≡ Right → ⊥
-no_right x e is = omega (arith, ap is_right is)
-
-pub no_both : (x : Paint) → is_both x ≡ 0 → x ≡ Both → ⊥
-no_both x e is = omega (arith, ap is_both is)

@@ -7,9 +7,8 @@ use Rattle.history.specs.History.Chain.{here, onward}
 use Rattle.history.proofs.Chains.{chain_falls, reaches_on}
 use Rattle.ancestry.specs.declared.paint.Paint.{Paint}
 use Rattle.ancestry.specs.declared.paint.Paint.TheVariants.{Clear, Left, Right}
-use Rattle.ancestry.specs.declared.waiting.Front.{Front}
 use Rattle.ancestry.specs.Ancestry.{Common}
-use Rattle.ancestry.specs.Painting.{paint_at, Under, Sound, Handed, Painting, laid, all_laid, Advanced}
+use Rattle.ancestry.specs.Painting.{paint_at, Under, Sound, Handed, Painting, laid, all_laid, Progress, Advanced}
 use Rattle.ancestry.specs.Paints.{byte_of, paint_of, left, right, below, joined, passed}
 use Rattle.ancestry.proofs.Bits.{joined_bits, passed_bits, below_both, paint_byte, zero_clear}
 
@@ -148,41 +147,41 @@ below_joins : (x y : Paint) → below (joined x y) ≡ (below x || below y)
 below_joins x y = (joined_bits x y).2
 
 -- the walk goes on by one commit
-module _ (h : List Commit) (falling : (a p : ℕ) → Parent h a p → p < a) (a b : ℕ) (marks marks' : List ℕ) (front front' : Front) (c : ℕ) (paint : Paint)
-    (step : Advanced h marks marks' front front' c paint) (bound : front.low ≤ length marks) where
+module _ (h : List Commit) (falling : (a p : ℕ) → Parent h a p → p < a) (a b : ℕ) (s s' : Progress) (c : ℕ) (paint : Paint)
+    (step : Advanced h s s' c paint) where
   abbrev ps : List ℕ
   ps = parents_of h c
 
   parent_low : (j : ℕ) → j < length ps → get_or ps j 0 < c
   parent_low j lt = falling c (get_or ps j 0) (j, lt, refl)
 
-  parent_marked : (j : ℕ) → j < length ps → get_or ps j 0 < length marks
-  parent_marked j lt = omega (arith, parent_low j lt, step.under)
+  parent_marked : (j : ℕ) → j < length ps → get_or ps j 0 < length s.marks
+  parent_marked j lt = omega (arith, parent_low j lt, step.within)
 
-  pub mark_stands : (k : ℕ) → c ≤ k → get_or marks' k 0 ≡ get_or marks k 0
+  pub mark_stands : (k : ℕ) → c ≤ k → get_or s'.marks k 0 ≡ get_or s.marks k 0
   mark_stands k le =
       ap (λ m. get_or m k 0) step.spread
-      ∙ laid_elsewhere (passed paint) ps marks k (λ j lt e. let z = parent_low j lt in omega arith)
+      ∙ laid_elsewhere (passed paint) ps s.marks k (λ j lt e. let z = parent_low j lt in omega arith)
 
-  pub paint_stands : paint_at marks' c ≡ paint
+  pub paint_stands : paint_at s'.marks c ≡ paint
   paint_stands = ap paint_of (mark_stands c (omega arith)) ∙ sym step.bears
 
-  grows : (bit : Paint → Bool) → ((x y : Paint) → bit (joined x y) ≡ (bit x || bit y)) → (k : ℕ) → bit (paint_at marks k) ≡ true → bit (paint_at marks' k) ≡ true
+  grows : (bit : Paint → Bool) → ((x y : Paint) → bit (joined x y) ≡ (bit x || bit y)) → (k : ℕ) → bit (paint_at s.marks k) ≡ true → bit (paint_at s'.marks k) ≡ true
   grows bit joins k e =
-      subst (λ m. bit (paint_at m k) ≡ true) (sym step.spread) (laid_grows (passed paint) bit joins ps marks parent_marked k e)
+      subst (λ m. bit (paint_at m k) ≡ true) (sym step.spread) (laid_grows (passed paint) bit joins ps s.marks parent_marked k e)
 
-  arrives : (bit : Paint → Bool) → ((x y : Paint) → bit (joined x y) ≡ (bit x || bit y)) → bit (passed paint) ≡ true → (p : ℕ) → Parent h c p → bit (paint_at marks' p) ≡ true
+  arrives : (bit : Paint → Bool) → ((x y : Paint) → bit (joined x y) ≡ (bit x || bit y)) → bit (passed paint) ≡ true → (p : ℕ) → Parent h c p → bit (paint_at s'.marks p) ≡ true
   arrives bit joins e p q =
-      subst (λ n. bit (paint_at marks' n) ≡ true) q.2
-      (subst (λ m. bit (paint_at m (get_or ps q.0 0)) ≡ true) (sym step.spread) (laid_arrives (passed paint) bit joins ps marks parent_marked e q.0 q.1))
+      subst (λ n. bit (paint_at s'.marks n) ≡ true) q.2
+      (subst (λ m. bit (paint_at m (get_or ps q.0 0)) ≡ true) (sym step.spread) (laid_arrives (passed paint) bit joins ps s.marks parent_marked e q.0 q.1))
 
-  pub painting_on : Painting h a b front.low marks → Painting h a b c marks'
+  pub painting_on : Painting h a b s.low s.marks → Painting h a b c s'.marks
   painting_on old =
       let bits = passed_bits paint in
       let sound_c = subst (Sound h a b c) (sym step.bears) (old.sound c) in
       record {
         sound = λ k. subst (λ m. Sound h a b k (paint_at m k)) (sym step.spread)
-            (laid_keeps (passed paint) (Sound h a b) (λ i. Sound h a b i (passed paint)) (λ i x r s. sound_joined h a b i x (passed paint) s r) ps marks
+            (laid_keeps (passed paint) (Sound h a b) (λ i. Sound h a b i (passed paint)) (λ i x r s. sound_joined h a b i x (passed paint) s r) ps s.marks
             (λ j lt. (parent_marked j lt, sound_passed h a b c (get_or ps j 0) paint (parent_low j lt) (j, lt, refl) sound_c)) old.sound k);
         first = grows left left_joins a old.first;
         second = grows right right_joins b old.second;
@@ -190,18 +189,18 @@ module _ (h : List Commit) (falling : (a p : ℕ) → Parent h a p → p < a) (a
             ⊎_elim
             (λ e.
             let q' = subst (λ n. Parent h n p) e q in
-            let is : paint_at marks' k ≡ paint = ap (paint_at marks') e ∙ paint_stands in
-            subst (λ x. Handed x (paint_at marks' p)) (sym is)
+            let is : paint_at s'.marks k ≡ paint = ap (paint_at s'.marks) e ∙ paint_stands in
+            subst (λ x. Handed x (paint_at s'.marks p)) (sym is)
             record {
               by_left = λ t. arrives left left_joins (bits.0 ∙ t) p q';
               by_right = λ t. arrives right right_joins (bits.1 ∙ t) p q';
               by_below = λ t u. arrives below below_joins (bits.2 ∙ and_from _ _ t u) p q';
             })
             (λ ne.
-            let is : paint_at marks' k ≡ paint_at marks k = ap paint_of (mark_stands k le) in
-            subst (λ x. Handed x (paint_at marks' p)) (sym is)
+            let is : paint_at s'.marks k ≡ paint_at s.marks k = ap paint_of (mark_stands k le) in
+            subst (λ x. Handed x (paint_at s'.marks p)) (sym is)
             (⊎_elim
-            (λ lt. clear_hands (paint_at marks k) (paint_at marks' p) (zero_clear (get_or marks k 0) (step.skipped k (omega arith) lt)))
+            (λ lt. clear_hands (paint_at s.marks k) (paint_at s'.marks p) (zero_clear (get_or s.marks k 0) (step.skipped k (omega arith) lt)))
             (λ ge.
             let was = old.handed k p ge q in
             record {
@@ -209,7 +208,7 @@ module _ (h : List Commit) (falling : (a p : ℕ) → Parent h a p → p < a) (a
               by_right = λ t. grows right right_joins p (was.by_right t);
               by_below = λ t u. grows below below_joins p (was.by_below t u);
             })
-            (cases_lt k front.low)))
+            (cases_lt k s.low)))
             (cases_eq k c);
       }
 

@@ -4,7 +4,6 @@ pub mod Counts
 pub mod Courses
 pub mod Filling
 pub mod Laying
-pub mod Lending
 pub mod Listings
 pub mod Sums
 pub mod Tallies

@@ -2,4 +2,3 @@ pub mod Ancestry
 pub mod Paints
 pub mod Painting
 pub mod Refusing
-pub mod Settling

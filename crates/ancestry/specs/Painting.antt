@@ -1,14 +1,14 @@
 -- What holds of the marks all along a walk from two commits. Assumes nothing.
-use Rattle.std.specs.Prelude.{◌≡◌, ℕ, ◌+◌, ◌<◌, ◌≤◌, Bool, true, ◌⊎◌, List, [], ◌∷◌, length, take, fold, ◌≢◌, nat_lt, slice_index, slice_set}
+use Rattle.std.specs.Prelude.{◌≡◌, ℕ, ◌<◌, ◌≤◌, Bool, true, ◌⊎◌, ◌==◌, List, count_by, length, take, fold, ◌≢◌, slice_index, slice_set, nat_lt}
 use Rattle.frontier.specs.declared.elements.ByNumber.{ByNumber}
-use Rattle.frontier.specs.Heaps.{Queued, Among, Distinct}
+use Rattle.frontier.specs.Heaps.{Among, Distinct}
 use Rattle.history.specs.History.{Commit, Parent, Reaches, parents_of}
 use Rattle.ancestry.specs.declared.goal.Goal.{Goal}
+use Rattle.ancestry.specs.declared.goal.Goal.TheVariants.{Counts, Bases}
 use Rattle.ancestry.specs.declared.paint.Paint.{Paint}
-use Rattle.ancestry.specs.declared.waiting.Front.{Front}
+use Rattle.ancestry.specs.declared.paint.Paint.TheVariants.{Left, Right, Both}
 use Rattle.ancestry.specs.Ancestry.{Common}
-use Rattle.ancestry.specs.Paints.{paint_of, byte_of, joined, passed, left, right, below, is_left, is_right, is_both}
-use Rattle.ancestry.specs.Settling.{settled}
+use Rattle.ancestry.specs.Paints.{paint_of, byte_of, joined, passed, left, right, below}
 
 abbrev pub paint_at : List ℕ → ℕ → Paint
 paint_at marks k = paint_of (slice_index marks k)
@@ -36,30 +36,32 @@ pub record Painting (h : List Commit) (a b low : ℕ) (marks : List ℕ) : Type 
   pub second : right (paint_at marks b) ≡ true
   pub handed : (k p : ℕ) → low ≤ k → Parent h k p → Handed (paint_at marks k) (paint_at marks p)
 
--- the sum of what f gives each entry
-abbrev pub sum_of : (ℕ → ℕ) → List ℕ → ℕ
-sum_of f [] = 0
-sum_of f (x ∷ xs) = f x + sum_of f xs
-
 abbrev pub waiting : ℕ → ByNumber
 waiting k = record { number = k }
 
 abbrev pub higher : ByNumber → ByNumber → Bool
 higher x y = nat_lt y.number x.number
 
--- the queue holds just the painted commits below `low`, each once, and the front counts their paints
-pub record Tidy (marks : List ℕ) (queue : List ByNumber) (front : Front) : Type 0 where
-  pub waits : (k : ℕ) → k < front.low → (slice_index marks k ≢ 0) → Among (waiting k) queue front.count
-  pub painted : (k : ℕ) → Among (waiting k) queue front.count → (k < front.low) × (slice_index marks k ≢ 0)
-  pub distinct : Distinct queue front.count
-  pub queued : Queued higher queue front.count
-  pub within : front.count ≤ length queue
-  pub lefts : front.left ≡ sum_of (λ x. is_left (paint_of x)) (take front.low marks)
-  pub rights : front.right ≡ sum_of (λ x. is_right (paint_of x)) (take front.low marks)
-  pub boths : front.both ≡ sum_of (λ x. is_both (paint_of x)) (take front.low marks)
-  pub bound : front.low ≤ length marks
+-- whether a mark shows the paint of byte v
+abbrev pub shows : ℕ → ℕ → Bool
+shows v mark = byte_of (paint_of mark) == v
+
+-- the queue holds just the painted commits below `low`, each once, and their paints are counted, each in its place
+pub record Tidy (marks : List ℕ) (queue : List ByNumber) (count low : ℕ) (bearing : List ℕ) : Type 0 where
+  pub waits : (k : ℕ) → k < low → (slice_index marks k ≢ 0) → Among (waiting k) queue count
+  pub painted : (k : ℕ) → Among (waiting k) queue count → (k < low) × (slice_index marks k ≢ 0)
+  pub distinct : Distinct queue count
+  pub counts : (v : ℕ) → 0 < v → slice_index bearing v ≡ count_by (shows v) (take low marks)
+  pub bound : low ≤ length marks
   pub room : length marks ≤ length queue
   pub few : length marks ≤ 65536
+
+-- how far a walk has come: its history and what it is to find out, the marks, and the number from which on every painted commit has been taken out
+pub record Progress : Type 0 where
+  pub commits : List Commit
+  pub goal : Goal
+  pub marks : List ℕ
+  pub low : ℕ
 
 -- the marks once paint has arrived at a commit, and at each of a list
 abbrev pub laid : Paint → List ℕ → ℕ → List ℕ
@@ -69,14 +71,23 @@ abbrev pub all_laid : Paint → List ℕ → List ℕ → List ℕ
 all_laid arriving marks ps = fold (laid arriving) marks ps
 
 -- c was taken out: the greatest of those that waited. Its paint has been laid on its parents
-pub record Advanced (h : List Commit) (marks marks' : List ℕ) (front front' : Front) (c : ℕ) (paint : Paint) : Type 0 where
-  pub under : c < front.low
-  pub found : (slice_index marks c ≢ 0)
-  pub skipped : (k : ℕ) → c < k → k < front.low → slice_index marks k ≡ 0
-  pub bears : paint ≡ paint_at marks c
-  pub lower : front'.low ≡ c
-  pub spread : marks' ≡ all_laid (passed paint) marks (parents_of h c)
+pub record Advanced (h : List Commit) (s s' : Progress) (c : ℕ) (paint : Paint) : Type 0 where
+  pub under : c < s.low
+  pub within : c < length s.marks
+  pub found : (slice_index s.marks c ≢ 0)
+  pub skipped : (k : ℕ) → c < k → k < s.low → slice_index s.marks k ≡ 0
+  pub bears : paint ≡ paint_at s.marks c
+  pub commits : s'.commits ≡ s.commits
+  pub goal : s'.goal ≡ s.goal
+  pub lower : s'.low ≡ c
+  pub spread : s'.marks ≡ all_laid (passed paint) s.marks (parents_of h c)
 
--- nothing that waits can change the answer, or nothing waits
-abbrev pub Idle : Goal → Front → Type 0
-Idle goal front = (settled goal front ≡ true) ⊎ (front.count ≡ 0)
+-- no commit that waits bears the paint
+abbrev pub NoneBears : Paint → Progress → Type 0
+NoneBears paint s = (k : ℕ) → k < s.low → (paint_at s.marks k ≢ paint)
+
+-- nothing that waits can change the answer. Counts: all that waits is reached from both. Merge bases: what waits and is reached from both lies below a
+-- common ancestor, and no two waiting lines can still meet
+abbrev pub Settled : Goal → Progress → Type 0
+Settled Counts s = NoneBears Left s × NoneBears Right s
+Settled Bases s = NoneBears Both s × (NoneBears Left s ⊎ NoneBears Right s)

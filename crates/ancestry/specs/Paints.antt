@@ -64,25 +64,3 @@ passed Left = Left
 passed Right = Right
 passed Both = Below
 passed Below = Below
-
--- 1 for the one paint, and 0 for the others
-abbrev pub is_left : Paint → ℕ
-is_left Clear = 0
-is_left Left = 1
-is_left Right = 0
-is_left Both = 0
-is_left Below = 0
-
-abbrev pub is_right : Paint → ℕ
-is_right Clear = 0
-is_right Left = 0
-is_right Right = 1
-is_right Both = 0
-is_right Below = 0
-
-abbrev pub is_both : Paint → ℕ
-is_both Clear = 0
-is_both Left = 0
-is_both Right = 0
-is_both Both = 1
-is_both Below = 0

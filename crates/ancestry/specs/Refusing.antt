@@ -1,5 +1,5 @@
 -- When a question about two commits is refused before its walk, tested in this order. Assumes nothing.
-use Rattle.std.specs.Prelude.{◌≡◌, ℕ, ◌<◌, min, cond, List, length, drop, Some, None, Ok, Err, Option, Result, nat_le, nat_lt, slice_index}
+use Rattle.std.specs.Prelude.{◌≡◌, ℕ, ◌<◌, ◌≤◌, min, cond, List, length, drop, Some, None, Ok, Err, Option, Result, nat_le, nat_lt, slice_index}
 use Rattle.history.specs.declared.refusal.Refusal.{Refusal}
 use Rattle.history.specs.declared.refusal.Refusal.TheVariants.{BufferTooShort, ResultTooShort, CommitNotHeld}
 use Rattle.history.specs.History.{Commit}
@@ -9,6 +9,14 @@ use Rattle.ancestry.specs.Ancestry.{Bases, filled}
 abbrev pub walk_refusal : ℕ → ℕ → ℕ → ℕ → Option Refusal
 walk_refusal count top marks queue =
     cond (nat_le count top) (Some CommitNotHeld) (cond (nat_le (min marks queue) top) (Some BufferTooShort) None)
+
+-- what is lent to a walk from a and b among so many commits: clear marks, and a queue with room for each marked commit
+pub record Lent {Q : Type 0} (a b count : ℕ) (marks : List ℕ) (queue : List Q) : Type 0 where
+  pub clear : (k : ℕ) → slice_index marks k ≡ 0
+  pub first : a < length marks
+  pub second : b < length marks
+  pub room : length marks ≤ length queue
+  pub held : length marks ≤ count
 
 -- after a walk: the used marks are 0, and all later marks and queue entries stand
 pub record Cleared {Q : Type 0} (used : ℕ) (marks marks' : List ℕ) (queue queue' : List Q) : Type 0 where

@@ -2,13 +2,11 @@
 #![tactic(auto)]
 
 mod bases;
-mod front;
 mod goal;
 mod marks;
 mod paint;
 mod parted;
 mod refuse;
-mod waiting;
 mod walk;
 
 pub use bases::merge_bases;

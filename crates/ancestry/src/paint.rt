@@ -2,7 +2,7 @@
 ghost use Rattle.std.specs.Prelude.{◌≡◌};
 ghost use Rattle.ancestry.specs.Paints.{paint_of, byte_of, joined, passed};
 
-#[derive(Clone, Copy)]
+#[derive(Clone, Copy, Debug, PartialEq, Eq)]
 pub enum Paint {
     // not reached so far
     Clear,
@@ -16,10 +16,10 @@ pub enum Paint {
     Below,
 }
 
-impl Paint {
-    pub fn of(byte: u8) -> Paint
-        ensures { result ≡ paint_of byte }
-    {
+impl From<u8> for Paint {
+    ghost from_gives = { λ byte paint. paint ≡ paint_of byte };
+
+    fn from(byte: u8) -> Paint {
         match byte {
             0 => Paint::Clear,
             1 => Paint::Left,
@@ -28,20 +28,18 @@ impl Paint {
             _ => Paint::Below,
         }
     }
+}
 
-    pub fn byte(self) -> u8
-        ensures { result ≡ byte_of self }
-    {
-        match self {
-            Paint::Clear => 0,
-            Paint::Left => 1,
-            Paint::Right => 2,
-            Paint::Both => 3,
-            Paint::Below => 4,
-        }
+impl From<Paint> for u8 {
+    ghost from_gives = { λ paint byte. byte ≡ byte_of paint };
+
+    fn from(paint: Paint) -> u8 {
+        paint as u8
     }
+}
 
-    // The paint of a commit that bears one paint when another arrives.
+impl Paint {
+    // The paint of a commit that bears one paint when another arrives. One match on the two, so that each pair is seen in one place.
     pub fn with(self, arriving: Paint) -> Paint
         ensures { result ≡ joined self arriving }
     {

@@ -1,18 +1,19 @@
 // The tests before a walk.
 ghost use Rattle.std.specs.Prelude.{◌≡◌};
+ghost use Rattle.history.specs.Model.{refused_with};
 ghost use Rattle.ancestry.specs.Refusing.{walk_refusal};
 
 use history::Refusal;
 
-// Why a walk from commits up to `top` cannot begin, if it cannot.
-pub fn refuse(count: usize, top: usize, marks: usize, queue: usize) -> Option<Refusal>
-    ensures { result ≡ walk_refusal count top marks queue }
+// Whether a walk from commits up to `top` can begin.
+pub fn check(count: usize, top: usize, marks: usize, queue: usize) -> Result<(), Refusal>
+    ensures { refused_with result ≡ walk_refusal count top marks queue }
 {
     if count <= top {
-        return Some(Refusal::CommitNotHeld);
+        return Err(Refusal::CommitNotHeld);
     }
     if marks.min(queue) <= top {
-        return Some(Refusal::BufferTooShort);
+        return Err(Refusal::BufferTooShort);
     }
-    None
+    Ok(())
 }

@@ -1,104 +1,137 @@
 // A walk from two commits towards their ancestors, the greatest number first.
-ghost use Rattle.std.specs.Prelude.{◌≡◌, ℕ, ◌+◌, ◌<◌, ◌≤◌, length, MatchOption, ◌≢◌, slice_index};
+ghost use Rattle.std.specs.Prelude.{◌≡◌, ℕ, true, ◌<◌, ◌↔◌, length, MatchOption, ◌≢◌, slice_index};
+ghost use Rattle.std.specs.Iterator.{at_most};
 ghost use Rattle.history.specs.Graph.{history};
-ghost use Rattle.ancestry.specs.Painting.{Tidy, laid, all_laid, Advanced, Idle};
+ghost use Rattle.ancestry.specs.Painting.{laid, all_laid, Advanced, NoneBears, Settled};
+ghost use Rattle.ancestry.specs.Refusing.{Lent};
 ghost use Rattle.ancestry.specs.declared.paint.Paint.TheVariants.{Clear, Left, Right};
 
 use crate::goal::Goal;
 use crate::paint::Paint;
-use crate::waiting::Front;
-use frontier::{ByNumber, push, take_out};
+use frontier::{ByNumber, Queue};
 use history::CommitGraph;
 use labels::LabelKind;
+use std::marker::Model;
 
-// Lays paint on a commit. One that was clear joins the queue.
-fn lay(marks: &mut [u8], queue: &mut [ByNumber], front: &mut Front, number: u32, arriving: Paint)
-    requires tidy { Tidy marks.old queue.old front.old }
-    requires under { number < front.old.low }
-    requires paints { arriving ≢ Clear }
-    ensures tidy { Tidy marks.new queue.new front.new }
-    ensures low { front.new.low ≡ front.old.low }
-    ensures laid { marks.new ≡ laid arriving marks.old number }
-{
-    let present = Paint::of(marks[number as usize]);
-    let paint = present.with(arriving);
-    marks[number as usize] = paint.byte();
-    front.leave(present);
-    front.enter(paint);
-    if let Paint::Clear = present {
-        push(queue, front.count, ByNumber { number });
-        front.count += 1;
-    }
-}
-
-// Lays paint on each commit of the list.
-fn spread(
-    list: &[u32],
-    marks: &mut [u8],
-    queue: &mut [ByNumber],
-    front: &mut Front,
-    arriving: Paint,
-)
-    requires tidy { Tidy marks.old queue.old front.old }
-    requires under { (i : ℕ) → i < length list.now → slice_index list.now i < front.old.low }
-    requires paints { arriving ≢ Clear }
-    ensures tidy { Tidy marks.new queue.new front.new }
-    ensures low { front.new.low ≡ front.old.low }
-    ensures laid { marks.new ≡ all_laid arriving marks.old list.now }
-{
-    for p in list {
-        lay(marks, queue, front, *p, arriving);
-    }
-}
-
-// Lays the two paints on clear marks.
-pub fn begin(marks: &mut [u8], queue: &mut [ByNumber], a: u32, b: u32) -> Front
-    requires clear { (k : ℕ) → slice_index marks.old k ≡ 0 }
-    requires first { a < length marks.old }
-    requires second { b < length marks.old }
-    requires room { length marks.old ≤ length queue.old }
-    requires few { length marks.old ≤ 65536 }
-    ensures tidy { Tidy marks.new queue.new result }
-    ensures low { result.low ≡ length marks.old }
-    ensures laid { marks.new ≡ laid Right (laid Left marks.old a) b }
-{
-    let mut front = Front {
-        count: 0,
-        low: marks.len(),
-        left: 0,
-        right: 0,
-        both: 0,
-    };
-    lay(marks, queue, &mut front, a, Paint::Left);
-    lay(marks, queue, &mut front, b, Paint::Right);
-    front
-}
-
-// Takes out the commit with the greatest number and lays its paint on its parents, unless nothing that waits can change the answer. Its own
-// paint is final then.
-pub fn advance<K: LabelKind>(
-    graph: &CommitGraph<'_, K>,
+// As an iterator it gives the commits that it takes out, each with its paint, which is final then.
+#[derive(Drop)]
+pub struct Walk<'w, 'g, K: LabelKind> {
+    graph: &'w CommitGraph<'g, K>,
     goal: Goal,
-    marks: &mut [u8],
-    queue: &mut [ByNumber],
-    front: &mut Front,
-) -> Option<(u32, Paint)>
-    requires tidy { Tidy marks.old queue.old front.old }
-    requires held { length marks.old ≤ graph.now.count }
-    ensures tidy { Tidy marks.new queue.new front.new }
-    ensures step { MatchOption result ((marks.new ≡ marks.old) × (front.new ≡ front.old) × Idle goal front.new) (λ x. Advanced (history graph.now) marks.old marks.new front.old front.new x.0 x.1) }
-{
-    if front.is_settled(goal) {
-        return None;
+    marks: &'w mut [u8],
+    // the painted commits that have not been taken out
+    queue: Queue<'w, ByNumber>,
+    // every painted commit from here on has been taken out of the queue
+    low: usize,
+    // how many of those that wait bear each paint, by the paint's byte
+    bearing: [usize; 5],
+}
+
+impl<'w, 'g, K: LabelKind> Model for Walk<'w, 'g, K> {
+    ghost use Rattle.std.specs.Prelude.{◌≤◌};
+    ghost use Rattle.history.specs.Graph.{history};
+    ghost use Rattle.ancestry.specs.Painting.{Progress, Tidy};
+
+    ghost Value = { Progress };
+
+    ghost view = { λ w. record { commits = history w.graph.now; goal = w.goal; marks = w.marks.now; low = w.low } };
+
+    ghost invariant = { λ w. (w.low ≤ w.graph.now.count) × Tidy w.marks.now w.queue.entries.now w.queue.count w.low w.bearing };
+}
+
+impl<'w, 'g, K: LabelKind> Walk<'w, 'g, K> {
+    // Lays the two paints on clear marks. The parts come one by one, as they are lent; the walk is what holds them together.
+    pub fn begin(
+        graph: &'w CommitGraph<'g, K>,
+        goal: Goal,
+        a: u32,
+        b: u32,
+        marks: &'w mut [u8],
+        queue: &'w mut [ByNumber],
+    ) -> Walk<'w, 'g, K>
+        requires { Lent a b graph.now.count marks.old queue.old }
+        ensures { result ≡ record { commits = history graph.now; goal = goal; marks = laid Right (laid Left marks.old a) b; low = length marks.old } }
+    {
+        let low = marks.len();
+        let mut walk = Walk {
+            graph,
+            goal,
+            marks,
+            queue: Queue::over(queue),
+            low,
+            bearing: [0; 5],
+        };
+        walk.lay(a, Paint::Left);
+        walk.lay(b, Paint::Right);
+        walk
     }
-    let Some(next) = take_out(queue, front.count) else {
-        return None;
-    };
-    let paint = Paint::of(marks[next.number as usize]);
-    front.count -= 1;
-    front.low = next.number as usize;
-    front.leave(paint);
-    let parents = graph.parents_at(next.number as usize);
-    spread(parents, marks, queue, front, paint.passed_on());
-    Some((next.number, paint))
+
+    // Lays paint on a commit. One that was clear joins the queue.
+    fn lay(&mut self, number: u32, arriving: Paint)
+        requires under { number < self.old.low }
+        requires paints { arriving ≢ Clear }
+        ensures { self.new ≡ record self.old { marks = laid arriving self.old.marks number } }
+    {
+        let present = Paint::from(self.marks[number as usize]);
+        let paint = present.with(arriving);
+        self.marks[number as usize] = paint.into();
+        self.bearing[paint as usize] += 1;
+        if present == Paint::Clear {
+            self.queue.push(ByNumber { number });
+        } else {
+            self.bearing[present as usize] -= 1;
+        }
+    }
+
+    // Lays paint on each commit of the list.
+    fn spread(&mut self, list: &[u32], arriving: Paint)
+        requires under { (i : ℕ) → i < length list.now → slice_index list.now i < self.old.low }
+        requires paints { arriving ≢ Clear }
+        ensures { self.new ≡ record self.old { marks = all_laid arriving self.old.marks list.now } }
+    {
+        for p in list {
+            self.lay(*p, arriving);
+        }
+    }
+
+    // Whether no commit that waits bears the paint.
+    fn is_gone(&self, paint: Paint) -> bool
+        requires { paint ≢ Clear }
+        ensures { (result ≡ true) ↔ NoneBears paint self.now }
+    {
+        self.bearing[paint as usize] == 0
+    }
+
+    // Whether nothing that waits can change the answer.
+    fn is_settled(&self) -> bool
+        ensures { (result ≡ true) ↔ Settled self.now.goal self.now }
+    {
+        match self.goal {
+            Goal::Counts => self.is_gone(Paint::Left) && self.is_gone(Paint::Right),
+            Goal::Bases => self.is_gone(Paint::Both)
+                && (self.is_gone(Paint::Left) || self.is_gone(Paint::Right)),
+        }
+    }
+}
+
+impl<K: LabelKind> Iterator for Walk<'_, '_, K> {
+    type Item = (u32, Paint);
+
+    ghost next_gives = { λ s r t. MatchOption r ((t ≡ s) × Settled s.goal s) (λ x. Advanced s.commits s t x.0 x.1) };
+
+    ghost remaining = { λ s. at_most s.low };
+
+    // Takes out the commit with the greatest number and lays its paint on its parents, unless nothing that waits can change the answer.
+    fn next(&mut self) -> Option<(u32, Paint)> {
+        if self.is_settled() {
+            return None;
+        }
+        let next = self.queue.pop()?;
+        let paint = Paint::from(self.marks[next.number as usize]);
+        self.bearing[paint as usize] -= 1;
+        self.low = next.number as usize;
+        let parents = self.graph.parents_at(next.number as usize);
+        self.spread(parents, paint.passed_on());
+        Some((next.number, paint))
+    }
 }

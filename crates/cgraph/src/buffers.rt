@@ -3,9 +3,5 @@ use std::alloc::{AllocError, Global};
 
 // `vec!` would ask labels for `Clone`.
 pub fn filled<T: Copy + Drop>(heap: Global, x: T, size: usize) -> Result<Vec<T>, AllocError> {
-    let mut items = Vec::with_capacity(heap, size)?;
-    for _ in 0..size {
-        items.push(x)?;
-    }
-    Ok(items)
+    (0..size).map(|_| x).collect(heap)
 }

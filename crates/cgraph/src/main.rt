@@ -3,6 +3,7 @@
 
 mod ask;
 mod buffers;
+mod failure;
 mod files;
 mod input;
 mod open;
@@ -10,18 +11,20 @@ mod serve;
 mod show;
 
 use input::Requests;
+use labels::Blank;
 use open::run_kind;
-use serve::wait;
+use serve::serve;
 use std::io;
 
 fn main(rt: HostRuntime) -> io::Result<()> {
     let mut requests = Requests::new(&rt)?;
-    let mut next = wait(&rt, &mut requests)?;
+    let mut next = serve::<Blank>(&rt, &mut requests, &mut None)?;
+    // a count, since the input may never end
     for _ in 0..u64::MAX {
-        match next {
-            Some(opening) => next = run_kind(&rt, &mut requests, opening)?,
-            None => break,
-        }
+        let Some(opening) = next else {
+            break;
+        };
+        next = run_kind(&rt, &mut requests, opening)?;
     }
     Ok(())
 }

@@ -1,25 +1,13 @@
 // Opening a history of the kind that a request names.
 use crate::buffers::filled;
 use crate::input::Requests;
-use crate::serve::{serve, wait};
+use crate::serve::serve;
 use crate::show::ShowLabel;
-use history::{CommitGraph, CommitRow, ObjectId};
+use history::{CommitGraph, CommitRow};
 use labels::{Blank, ByteLevel, CorrectedDate, Interval, LabelKind, Level, Pair, Step, Stepped};
 use protocol::{BaseKind, Kind, Opening};
 use std::alloc::{AllocError, Global};
 use std::io;
-
-const NO_ID: ObjectId = ObjectId { bytes: [0; 20] };
-
-const EMPTY: CommitRow = CommitRow {
-    id: NO_ID,
-    tree: NO_ID,
-    date: 0,
-    level: 0,
-    corrected: 0,
-    from: 0,
-    size: 0,
-};
 
 #[derive(Drop)]
 struct Tables<L: Drop> {
@@ -34,7 +22,7 @@ fn make_tables<K: LabelKind>(
     opening: Opening,
 ) -> Result<Tables<K::Label>, AllocError> {
     Ok(Tables {
-        rows: filled(heap, EMPTY, opening.rows)?,
+        rows: filled(heap, CommitRow::EMPTY, opening.rows)?,
         labels: filled(heap, K::first(0, 0), opening.labels)?,
         order: filled(heap, 0, opening.order)?,
         parents: filled(heap, 0, opening.parents)?,
@@ -49,22 +37,22 @@ fn run<K: ShowLabel>(
 ) -> io::Result<Option<Opening>> {
     let Ok(mut tables) = make_tables::<K>(rt.alloc(), opening) else {
         rt.println("error there is no memory for the tables, and no history is open")?;
-        return wait(rt, requests);
+        return serve::<K>(rt, requests, &mut None);
     };
     let kind = opening.kind;
     let capacity = opening.capacity();
     let parent_capacity = opening.parent_capacity();
     println!(rt; "opened {kind} capacity {capacity} parents {parent_capacity}")?;
-    let mut graph = CommitGraph::<K>::open(
+    let graph = CommitGraph::<K>::open(
         tables.rows.as_mut_slice(),
         tables.labels.as_mut_slice(),
         tables.order.as_mut_slice(),
         tables.parents.as_mut_slice(),
     );
-    serve(rt, requests, &mut graph)
+    serve(rt, requests, &mut Some(graph))
 }
 
-// A history of a pair whose second kind is known.
+// A history of a pair whose second kind is known. A kind is a type, so each has an arm here and below; a trait for what is done at a kind takes more lines.
 fn run_before<B: ShowLabel>(
     rt: &HostRuntime,
     requests: &mut Requests,

@@ -1,7 +1,8 @@
-// Serving requests.
-use crate::ask::{ask_ahead_behind, ask_contains, ask_merge_bases, tell_refusal};
+// Serving requests. The runtime is handed on by itself, as printing and memory ask for it.
+use crate::ask::{ask_ahead_behind, ask_contains, ask_merge_bases};
+use crate::failure::Failure;
 use crate::files::write_file;
-use crate::input::{Next, Requests};
+use crate::input::Requests;
 use crate::show::{CommitLine, ShowLabel};
 use history::{CommitGraph, ObjectId};
 use labels::LabelKind;
@@ -12,30 +13,34 @@ fn add<K: LabelKind>(
     rt: &HostRuntime,
     graph: &mut CommitGraph<'_, K>,
     commit: Addition,
-) -> io::Result<()> {
-    match graph.add(
+) -> Result<(), Failure> {
+    let number = graph.add(
         commit.id,
         commit.tree,
         commit.date,
         commit.parents.as_slice(),
-    ) {
-        Ok(number) => println!(rt; "added {number}"),
-        Err(refusal) => tell_refusal(rt, refusal),
-    }
+    )?;
+    println!(rt; "added {number}")?;
+    Ok(())
 }
 
 fn find<K: LabelKind>(
     rt: &HostRuntime,
     graph: &CommitGraph<'_, K>,
     id: ObjectId,
-) -> io::Result<()> {
+) -> Result<(), Failure> {
     match graph.find(id) {
-        Some(number) => println!(rt; "found {number}"),
-        None => rt.println("none"),
+        Some(number) => println!(rt; "found {number}")?,
+        None => rt.println("none")?,
     }
+    Ok(())
 }
 
-fn show<K: ShowLabel>(rt: &HostRuntime, graph: &CommitGraph<'_, K>, number: u32) -> io::Result<()> {
+fn show<K: ShowLabel>(
+    rt: &HostRuntime,
+    graph: &CommitGraph<'_, K>,
+    number: u32,
+) -> Result<(), Failure> {
     match (
         graph.commit(number),
         graph.label(number),
@@ -48,45 +53,43 @@ fn show<K: ShowLabel>(rt: &HostRuntime, graph: &CommitGraph<'_, K>, number: u32)
                 label,
                 parents,
             };
-            rt.println(line)
+            rt.println(line)?;
         }
-        _ => rt.println("none"),
+        _ => rt.println("none")?,
     }
+    Ok(())
 }
 
 // Serves requests until the next `open`, which it hands back, or the end of the input.
 pub fn serve<K: ShowLabel>(
     rt: &HostRuntime,
     requests: &mut Requests,
-    graph: &mut CommitGraph<'_, K>,
+    graph: &mut Option<CommitGraph<'_, K>>,
 ) -> io::Result<Option<Opening>> {
+    // a count, since the input may never end
     for _ in 0..u64::MAX {
-        match requests.next()? {
-            Next::End => break,
-            Next::Error(e) => println!(rt; "error {e}")?,
-            Next::Request(Request::Nothing) => {}
-            Next::Request(Request::Open(opening)) => return Ok(Some(opening)),
-            Next::Request(Request::Add(commit)) => add(rt, graph, commit)?,
-            Next::Request(Request::Find(id)) => find(rt, graph, id)?,
-            Next::Request(Request::Show(number)) => show(rt, graph, number)?,
-            Next::Request(Request::Contains(question)) => ask_contains(rt, graph, question)?,
-            Next::Request(Request::AheadBehind(question)) => ask_ahead_behind(rt, graph, question)?,
-            Next::Request(Request::MergeBases(question)) => ask_merge_bases(rt, graph, question)?,
-            Next::Request(Request::Write(writing)) => write_file(rt, graph, writing)?,
-        }
-    }
-    Ok(None)
-}
-
-// Serves requests while no history is open.
-pub fn wait(rt: &HostRuntime, requests: &mut Requests) -> io::Result<Option<Opening>> {
-    for _ in 0..u64::MAX {
-        match requests.next()? {
-            Next::End => break,
-            Next::Error(e) => println!(rt; "error {e}")?,
-            Next::Request(Request::Nothing) => {}
-            Next::Request(Request::Open(opening)) => return Ok(Some(opening)),
-            Next::Request(_) => rt.println("error no history is open")?,
+        let Some(request) = requests.next()? else {
+            break;
+        };
+        let answered = match (request, graph.as_mut()) {
+            (Err(e), _) => Err(Failure::Unreadable(e)),
+            (Ok(Request::Nothing), _) => Ok(()),
+            (Ok(Request::Open(opening)), _) => return Ok(Some(opening)),
+            (Ok(_), None) => Err(Failure::NoHistory),
+            (Ok(Request::Add(commit)), Some(graph)) => add(rt, graph, commit),
+            (Ok(Request::Find(id)), Some(graph)) => find(rt, graph, id),
+            (Ok(Request::Show(number)), Some(graph)) => show(rt, graph, number),
+            (Ok(Request::Contains(question)), Some(graph)) => ask_contains(rt, graph, question),
+            (Ok(Request::AheadBehind(question)), Some(graph)) => {
+                ask_ahead_behind(rt, graph, question)
+            }
+            (Ok(Request::MergeBases(question)), Some(graph)) => ask_merge_bases(
+                rt, graph, question,
+            ),
+            (Ok(Request::Write(writing)), Some(graph)) => write_file(rt, graph, writing),
+        };
+        if let Err(failure) = answered {
+            failure.tell(rt)?;
         }
     }
     Ok(None)

@@ -4,7 +4,7 @@ use labels::{Blank, Interval, LabelKind, Pair, Span, Step, Stepped};
 use protocol::HexId;
 use std::fmt;
 
-// A label kind whose labels can be written.
+// A label kind whose labels can be written. Not by `Display`: labels are units, numbers and pairs, whose types are not ours.
 pub trait ShowLabel: LabelKind {
     fn show<W: fmt::Write>(label: Self::Label, f: &mut fmt::Formatter<W>) -> fmt::Result;
 }

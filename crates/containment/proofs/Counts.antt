@@ -1,19 +1,12 @@
 -- Counting marks. Assumes nothing.
-use Rattle.std.proofs.Common.{◌≡◌, ℕ, suc, ◌+◌, ◌<◌, ◌≤◌, cond, eqb, List, [], ◌∷◌, length, get_or, take, count_by, sym, subst, ⊎_elim, arith}
-use Rattle.std.proofs.lemmas.List.{length-take-le}
-use Rattle.std.proofs.lemmas.List.Sums.{sum_by-cons, sum_by_more, count_by-le-length}
+use Rattle.std.proofs.Common.{◌≡◌, ℕ, suc, ◌+◌, cond, eqb, List, [], ◌∷◌, length, get_or, count_by, sym, subst, ⊎_elim, arith}
+use Rattle.std.proofs.lemmas.List.Sums.{sum_by-cons}
 use Rattle.std.proofs.lemmas.Bool.{cond-true, cond-false, eq-eqb, ne_eqb}
 use Rattle.history.specs.Counting.{Tally, Tells}
 use Rattle.history.specs.Counting.Tally.{ended, with_it, without}
 
 abbrev pub ones : List ℕ → ℕ
 ones marks = count_by (λ m. eqb m 1) marks
-
-pub ones_more : (marks : List ℕ) (i : ℕ) → i < length marks → ones (take (i + 1) marks) ≡ ones (take i marks) + cond (eqb (get_or marks i 0) 1) 1 0
-ones_more marks i lt = sum_by_more (λ m. cond (eqb m 1) 1 0) marks i 0 lt
-
-pub ones_few : (marks : List ℕ) (i : ℕ) → i ≤ length marks → ones (take i marks) ≤ i
-ones_few marks i le = omega (arith, count_by-le-length (λ m. eqb m 1) (take i marks), length-take-le i marks le)
 
 -- where each mark tells P, the marks that are 1 are the numbers that have P; n is how far the list begins
 tally_from : (P : ℕ → Type 0) (marks : List ℕ) (n size : ℕ) → size ≡ n + length marks → ((k : ℕ) → Tells (get_or marks k 0) (P (n + k))) → Tally P size n (ones marks)

@@ -1,12 +1,11 @@
 -- Labels that a lawful kind makes cover: each allows the labels of its commit's parents. Assumes nothing.
-use Rattle.std.proofs.Common.{◌≡◌, ℕ, zero, suc, ◌<◌, Bool, true, List, [], ◌∷◌, length, get_or, take, fold, sym, ap, ◌∙◌, ap₂, subst₂, ⊎_elim, arith}
+use Rattle.std.proofs.Common.{◌≡◌, ℕ, zero, suc, ◌<◌, Bool, true, List, [], ◌∷◌, length, get_or, take, fold, sym, ap, ◌∙◌, ap₂, subst, ⊎_elim, arith}
 use Rattle.std.proofs.lemmas.Bool.{cases_lt}
 use Rattle.std.proofs.lemmas.List.{get_or-take, get_or_default, get_or_past}
 use Rattle.labels.specs.Laws.{Laws}
 use Rattle.labels.specs.declared.kind.LabelKind.{Ghosts}
 use Rattle.history.specs.declared.graph.CommitGraph.{CommitGraph}
-use Rattle.history.specs.Graph.{history, labels, Represents}
-use Rattle.history.specs.Model.{Model}
+use Rattle.history.specs.Graph.{history, labels}
 use Rattle.history.specs.History.{Commit, no_commit, commit_of, parents_of, Parent}
 use Rattle.history.specs.Labels.{labels_of}
 use Rattle.history.proofs.Chains.{label_at, length_labels}
@@ -39,6 +38,7 @@ module _ {L : Type 0} (start : ℕ → ℕ → L) (grown : L → L → L) (allow
       (λ ge. absurd (omega (arith, ap (λ x. length x.parents) (get_or_past h a no_commit ge), q.1)))
       (cases_lt a (length h))
 
-  -- the labels that a graph holds are made
-  pub graph_covers : {K : Type 0} {kind : Ghosts K L} (m : Model) (g : CommitGraph K L kind) → Represents start grown m g → (d : L) → Covers allows d (history g) (labels g)
-  graph_covers m g s d = subst₂ (Covers allows d) (sym s.commits) (sym s.labels) (made_covers d m.commits s.wellformed.falling)
+-- the labels that a graph holds are made
+pub graph_covers : {K L : Type 0} {kind : Ghosts K L} (laws : Laws kind.grown kind.allows) (g : CommitGraph K L kind) (d : L) → Covers kind.allows d (history g) (labels g)
+graph_covers {kind = kind} laws g d =
+    subst (Covers kind.allows d (history g)) (sym g.computed.labels) (made_covers kind.start kind.grown kind.allows laws d (history g) g.proper.falling)

@@ -1,11 +1,11 @@
 -- The pass that tells which commits of a trail reach the target, and what is read off the marks. Assumes nothing.
 use Rattle.std.proofs.Common.{◌≡◌, ℕ, suc, ◌+◌, ◌<◌, ◌≤◌, ◌⊎◌, List, length, get_or, set, sym, refl, ap, ◌∙◌, subst, inl, inr, ⊎_elim, arith}
-use Rattle.std.proofs.lemmas.Bool.{cases_eq, cases_lt, eq-eqb, ne_eqb, cond-true, cond-false}
-use Rattle.std.proofs.lemmas.List.{get_or-set_same, get_or-set_other, get_or_past}
+use Rattle.std.proofs.lemmas.Bool.{cases_eq, eq-eqb, ne_eqb, cond-true, cond-false}
+use Rattle.std.proofs.lemmas.List.{get_or-set_same, get_or-set_other}
 use Rattle.history.specs.Counting.{Tells}
 use Rattle.history.specs.History.{Commit, Parent, Chain, Reaches}
 use Rattle.history.specs.History.Chain.{here, onward}
-use Rattle.containment.specs.Settling.{Leads, Keeps, Settled, told, restored}
+use Rattle.containment.specs.Settling.{Leads, Keeps, Settled, told}
 use Rattle.history.proofs.Chains.{chain_falls}
 
 -- the first step of a chain
@@ -73,19 +73,6 @@ module _ (h : List Commit) (t : ℕ) (falling : (a p : ℕ) → Parent h a p →
     }
 
   module _ (m : List ℕ) (long : length m ≡ length marks) (s : Settled h t (length marks) marks m) where
-    -- the marks go back to what they were
-    pub restored_back : (new : List ℕ) → length new ≡ length m → ((k : ℕ) → k < length m → get_or new k 0 ≡ restored (get_or m k 0)) →
-        (k : ℕ) → get_or new k 0 ≡ get_or marks k 0
-    restored_back new same w k =
-        ⊎_elim
-        (λ lt.
-        ⊎_elim
-        (λ e. w k lt ∙ cond-true _ _ _ (eq-eqb (get_or m k 0) 2 e) ∙ sym (s.only k e).0)
-        (λ ne. w k lt ∙ cond-false _ _ _ (ne_eqb (get_or m k 0) 2 ne) ∙ ⊎_elim (λ e. absurd (ne e)) (λ e. e) (s.else k))
-        (cases_eq (get_or m k 0) 2))
-        (λ ge. get_or_past new k 0 (omega arith) ∙ sym (get_or_past marks k 0 (omega arith)))
-        (cases_lt k (length m))
-
     -- a settled mark tells whether its commit reaches the target, if each commit that does is marked
     pub settled_tells : (k byte : ℕ) → k < length marks → Keeps h t marks → (Reaches h k t → get_or marks k 0 ≡ 1) → byte ≡ told (get_or m k 0) → Tells byte (Reaches h k t)
     settled_tells k byte lt keeps marked is =

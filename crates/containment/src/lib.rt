@@ -1,11 +1,12 @@
 // Which tips contain a commit.
 #![tactic(auto)]
 
+mod answer;
+mod mark;
 mod question;
 mod room;
 mod settle;
 mod tell;
-mod visit;
 mod walk;
 
-pub use question::contains;
+pub use answer::contains;

@@ -1,74 +1,40 @@
-// The question itself: its tests, and then the walk.
-ghost use Rattle.std.specs.Prelude.{◌≡◌, ℕ, ◌<◌, ◌≤◌, length, IfOk, OnErr, slice_index};
-ghost use Rattle.containment.specs.Refusing.{contains_refusal};
-ghost use Rattle.containment.specs.Trails.{Contained, Trail, opens, Covers};
-ghost use Rattle.history.specs.Counting.{Tally, Tells};
-ghost use Rattle.history.specs.Graph.{Represents, history, labels};
-ghost use Rattle.history.specs.History.{Reaches};
-ghost use Rattle.history.specs.Labels.{labels_of};
-ghost use Rattle.history.specs.Model.{Model, refused_with};
+// A question of containment: the commits that it names, and how many marks its walk uses.
+ghost use Rattle.std.specs.Prelude.{◌≡◌, ℕ, ◌<◌, ◌≤◌, length, slice_index};
 
-use crate::room::admit;
-use crate::settle::settle;
-use crate::tell::{restore, tell, visits};
-use crate::walk::walk;
-use frontier::ByNumber;
-use history::{CommitGraph, Refusal};
+use crate::mark::Mark;
+use history::CommitGraph;
 use labels::LabelKind;
 
-// The question over slices of the lengths that it uses.
-fn answer<K: LabelKind>(
-    graph: &CommitGraph<'_, K>,
-    target: usize,
-    tips: &[u32],
-    results: &mut [u8],
-    marks: &mut [u8],
-    queue: &mut [ByNumber],
-) -> u32
-    requires held { length marks.old ≤ graph.now.count }
-    requires told { length results.old ≡ length tips.now }
-    requires room { length queue.old ≡ length marks.old }
-    requires target_within { target < length marks.old }
-    requires within { (i : ℕ) → i < length tips.now → slice_index tips.now i < length marks.old }
-    ensures trail { (k : ℕ) → Tells (slice_index marks.new k) (Trail (history graph.now) (opens K.LabelKind.allows (K.LabelKind.start 0 0) (labels graph.now) target) target tips.now k) }
-    ensures visited { Tally (Trail (history graph.now) (opens K.LabelKind.allows (K.LabelKind.start 0 0) (labels graph.now) target) target tips.now) (length marks.old) 0 result }
-    ensures told { Covers K.LabelKind.allows (K.LabelKind.start 0 0) (history graph.now) (labels graph.now) → (i : ℕ) → i < length tips.now → Tells (slice_index results.new i) (Reaches (history graph.now) (slice_index tips.now i) target) }
-{
-    walk(graph, target, tips, marks, queue);
-    let visits = visits(marks);
-    settle(graph, marks, target);
-    tell(tips, marks, results);
-    restore(marks);
-    visits
+// Every commit that is named has a mark, and every mark a commit. The marks are lent beside it: in a field, each pass that writes them
+// would have to say that it holds the same slice as before.
+#[derive(Drop)]
+pub struct Question<'q, 'a, K: LabelKind> {
+    pub graph: &'q CommitGraph<'a, K>,
+    pub target: usize,
+    pub tips: &'q [u32],
+    pub size: usize,
+    ghost held: { size ≤ graph.now.count },
+    ghost target_within: { target < size },
+    ghost tips_within: { (i : ℕ) → i < length tips.now → slice_index tips.now i < size },
 }
 
-// Puts 1 into result i where tip i reaches the target, and 0 where it does not; the marks show the trail, and its length is returned.
-pub fn contains<K: LabelKind>(
-    graph: &CommitGraph<'_, K>,
-    target: u32,
-    tips: &[u32],
-    results: &mut [u8],
-    marks: &mut [u8],
-    queue: &mut [ByNumber],
-) -> Result<u32, Refusal>
-    ensures refusal { (m : Model) → Represents K.LabelKind.start K.LabelKind.grown m graph.now → refused_with result ≡ contains_refusal (length m.commits) target tips.now (length results.old) (length marks.old) (length queue.old) }
-    ensures answer { (m : Model) → Represents K.LabelKind.start K.LabelKind.grown m graph.now → IfOk result (λ visits. Contained m.commits (opens K.LabelKind.allows (K.LabelKind.start 0 0) (labels_of K.LabelKind.start K.LabelKind.grown m.commits) target) target tips.now results.old results.new marks.old marks.new queue.old queue.new visits) }
-    ensures untouched { OnErr result ((results.new ≡ results.old) × (marks.new ≡ marks.old) × (queue.new ≡ queue.old)) }
-{
-    let size = admit(
-        graph.held(),
-        target,
-        tips,
-        results.len(),
-        marks.len(),
-        queue.len(),
-    )?;
-    Ok(answer(
-        graph,
-        target as usize,
-        tips,
-        &mut results[0..tips.len()],
-        &mut marks[0..size],
-        &mut queue[0..size],
-    ))
+impl<K: LabelKind> Question<'_, '_, K> {
+    ghost use Rattle.containment.specs.Questions.{open_to, wanted_by};
+
+    // Whether the commit is open towards the target. Numbers are taken bare, each with its bound: they come from lists of plain numbers.
+    fn is_open(&self, number: usize) -> bool
+        requires within { number < self.now.size }
+        ensures { result ≡ open_to self.now number }
+    {
+        let graph = self.graph;
+        number == self.target || K::may(graph.label_at(number), graph.label_at(self.target))
+    }
+
+    // Whether the commit belongs to the trail and is not marked yet.
+    pub fn is_wanted(&self, number: usize, mark: u8) -> bool
+        requires within { number < self.now.size }
+        ensures { result ≡ wanted_by self.now number mark }
+    {
+        mark == Mark::Clear as u8 && number >= self.target && self.is_open(number)
+    }
 }

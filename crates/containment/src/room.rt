@@ -10,14 +10,10 @@ use history::Refusal;
 fn top(target: u32, tips: &[u32]) -> u32
     ensures { result ≡ top_commit target tips.now }
 {
-    let mut top = target;
-    for tip in tips {
-        top = top.max(*tip);
-    }
-    top
+    tips.iter().copied().fold(target, u32::max)
 }
 
-// How many marks the walk uses, or why there is none.
+// How many marks the walk uses, or why there is none. Not the tests of a walk from two commits: the results are tested between them.
 pub fn admit(
     held: usize,
     target: u32,

@@ -1,57 +1,43 @@
 // What is read off the marks: the number of visits and the results.
-ghost use Rattle.std.specs.Prelude.{◌≡◌, ℕ, ◌+◌, ◌<◌, ◌≤◌, length, if◌then◌else◌, count_by, nat_eq, slice_index};
+ghost use Rattle.std.specs.Prelude.{◌≡◌, ℕ, ◌<◌, ◌≤◌, length, count_by, nat_eq, slice_index};
 ghost use Rattle.containment.specs.Settling.{told, restored};
 
-// One visit more, if the commit is marked.
-fn with_visit(visits: u32, mark: u8) -> u32
-    requires { visits ≤ 65535 }
-    ensures { result ≡ visits + (if nat_eq mark 1 then 1 else 0) }
-{
-    if mark == 1 { visits + 1 } else { visits }
-}
+use crate::mark::Mark;
+use crate::question::Question;
+use labels::LabelKind;
 
-// How many marks are 1.
+// How many commits are on the trail.
 pub fn visits(marks: &[u8]) -> u32
     requires { length marks.now ≤ 65536 }
     ensures { result ≡ count_by (λ m. nat_eq m 1) marks.now }
 {
-    let mut visits = 0;
-    for mark in marks {
-        visits = with_visit(visits, *mark);
+    marks
+        .iter()
+        .filter(|mark| **mark == Mark::OnTrail as u8)
+        .count() as u32
+}
+
+impl<K: LabelKind> Question<'_, '_, K> {
+    // Writes the result of each tip.
+    pub fn tell(&self, marks: &[u8], results: &mut [u8])
+        requires told { length results.old ≡ length self.now.tips.now }
+        requires marked { length marks.now ≡ self.now.size }
+        ensures { (i : ℕ) → i < length self.now.tips.now → slice_index results.new i ≡ told (slice_index marks.now (slice_index self.now.tips.now i)) }
+    {
+        // by place: of a `zip` with the results' `iter_mut`, a proof knows nothing that was written
+        for (i, tip) in self.tips.iter().enumerate() {
+            results[i] = u8::from(marks[*tip as usize] == Mark::Reaching as u8);
+        }
     }
-    visits
-}
-
-// The result of a tip with this mark.
-fn result_of(mark: u8) -> u8
-    ensures { result ≡ told mark }
-{
-    if mark == 2 { 1 } else { 0 }
-}
-
-// Writes the result of each tip.
-pub fn tell(tips: &[u32], marks: &[u8], results: &mut [u8])
-    requires room { length results.old ≡ length tips.now }
-    requires within { (i : ℕ) → i < length tips.now → slice_index tips.now i < length marks.now }
-    ensures { (i : ℕ) → i < length tips.now → slice_index results.new i ≡ told (slice_index marks.now (slice_index tips.now i)) }
-{
-    for i in 0..tips.len() {
-        results[i] = result_of(marks[tips[i] as usize]);
-    }
-}
-
-// The mark of a commit on the trail is 1, whether it reaches the target or not.
-fn trail_mark(mark: u8) -> u8
-    ensures { result ≡ restored mark }
-{
-    if mark == 2 { 1 } else { mark }
 }
 
 // Puts the marks back to those of the trail.
 pub fn restore(marks: &mut [u8])
     ensures { (k : ℕ) → k < length marks.old → slice_index marks.new k ≡ restored (slice_index marks.old k) }
 {
-    for i in 0..marks.len() {
-        marks[i] = trail_mark(marks[i]);
+    for mark in marks.iter_mut() {
+        if *mark == Mark::Reaching as u8 {
+            *mark = Mark::OnTrail as u8;
+        }
     }
 }

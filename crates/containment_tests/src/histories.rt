@@ -3,15 +3,9 @@ use containment::contains;
 use frontier::ByNumber;
 use history::{CommitGraph, CommitRow, ObjectId, Refusal};
 use labels::LabelKind;
+use samples::SEVEN;
 
-#[derive(Clone, Copy)]
-struct Given<'a> {
-    id: u8,
-    date: u64,
-    parents: &'a [u32],
-}
-
-// An id that begins with these bytes and goes on with zeros.
+// An id that begins with these bytes and goes on with zeros. Each test crate makes its own ids: what they share has no functions.
 fn id(first: u8, second: u8) -> ObjectId {
     let mut bytes = [0; 20];
     bytes[0] = first;
@@ -19,40 +13,20 @@ fn id(first: u8, second: u8) -> ObjectId {
     ObjectId { bytes }
 }
 
-fn empty_row() -> CommitRow {
-    CommitRow {
-        id: id(0, 0),
-        tree: id(0, 0),
-        date: 0,
-        level: 0,
-        corrected: 0,
-        from: 0,
-        size: 0,
-    }
-}
-
-fn commit<'a>(id: u8, date: u64, parents: &'a [u32]) -> Given<'a> {
-    Given { id, date, parents }
-}
-
-// Seven commits with two roots.
 fn add_seven<K: LabelKind>(graph: &mut CommitGraph<'_, K>) -> Result<(), Refusal> {
-    let commits = [
-        commit(0x50, 100, &[]),
-        commit(0x30, 90, &[0]),
-        commit(0x40, 120, &[0]),
-        commit(0x20, 130, &[1, 2]),
-        commit(0x60, 110, &[2, 1]),
-        commit(0x10, 50, &[]),
-        commit(0x70, 140, &[3, 4, 5]),
-    ];
-    for c in commits {
-        graph.add(id(c.id, 0), id(0, 0), c.date, c.parents)?;
+    for commit in SEVEN {
+        graph.add(
+            id(commit.id, 0),
+            ObjectId::ZERO,
+            commit.date,
+            commit.parents,
+        )?;
     }
     Ok(())
 }
 
-// Asks about the seven commits, over a table for their labels.
+// Asks about the seven commits, over a table for their labels. It makes the other tables itself: a history borrows them, so it cannot be handed out
+// with them.
 pub fn ask_seven<K: LabelKind>(
     labels: &mut [K::Label],
     target: u32,
@@ -61,7 +35,7 @@ pub fn ask_seven<K: LabelKind>(
     marks: &mut [u8],
     queue: &mut [ByNumber],
 ) -> Result<u32, Refusal> {
-    let mut rows = [empty_row(); 7];
+    let mut rows = [CommitRow::EMPTY; 7];
     let mut order = [0; 7];
     let mut parents = [0; 9];
     let mut graph = CommitGraph::<K>::open(&mut rows, labels, &mut order, &mut parents);
@@ -69,24 +43,24 @@ pub fn ask_seven<K: LabelKind>(
     contains(&graph, target, tips, results, marks, queue)
 }
 
-// A chain of 300 commits, each the parent of the next.
+// A chain of 300 commits, each the parent of the next. By number: it makes the id, and names the child's parent.
 fn add_chain<K: LabelKind>(graph: &mut CommitGraph<'_, K>) -> Result<(), Refusal> {
-    graph.add(id(0, 0), id(0, 0), 0, &[])?;
-    for n in 1..300 {
-        let parents = [n - 1];
-        graph.add(id((n / 256) as u8, (n % 256) as u8), id(0, 0), 0, &parents)?;
+    graph.add(ObjectId::ZERO, ObjectId::ZERO, 0, &[])?;
+    for n in 1..300u32 {
+        let [_, _, high, low] = n.to_be_bytes();
+        graph.add(id(high, low), ObjectId::ZERO, 0, &[n - 1])?;
     }
     Ok(())
 }
 
-// Asks about the chain.
+// Asks about the chain, over tables of its own: a history borrows them, so it cannot be handed out with them.
 pub fn ask_chain<K: LabelKind>(
     labels: &mut [K::Label],
     target: u32,
     tips: &[u32],
     results: &mut [u8],
 ) -> Result<u32, Refusal> {
-    let mut rows = [empty_row(); 300];
+    let mut rows = [CommitRow::EMPTY; 300];
     let mut order = [0; 300];
     let mut parents = [0; 300];
     let mut graph = CommitGraph::<K>::open(&mut rows, labels, &mut order, &mut parents);

@@ -1,57 +1,32 @@
 -- A queue of different elements has at most as many entries as there are numbers for them. Assumes nothing.
-use Rattle.std.proofs.Common.{◌≡◌, ℕ, zero, suc, ◌+◌, ◌-◌, ◌<◌, ◌≤◌, cond, ltb, ◌⊎◌, List, ◌∷◌, get_or, sym, refl, ap, ◌∙◌, inl, inr, ⊎_elim, arith}
-use Rattle.std.proofs.lemmas.Bool.{cases_lt, cases_eq, cond-true, cond-false, lt-ltb, le-ltb}
+use Rattle.std.proofs.Common.{◌≡◌, ℕ, zero, suc, ◌<◌, ◌≤◌, List, ◌∷◌, eqb, true, map, get_or, sym, refl, ◌∙◌, ne_eqb, arith}
+use Rattle.std.specs.List.{range_with_len, list_any, IsDistinct}
+use Rattle.std.proofs.lemmas.Bool.{eqb-true}
+use Rattle.std.proofs.lemmas.List.Folds.{Any-from_list_any}
+use Rattle.std.proofs.lemmas.List.FromFn.{get_or-map-range_with_len, length-map-range_with_len}
+use Rattle.std.proofs.lemmas.Map.Keys.{IsDistinct-from_apart}
+use Rattle.std.proofs.lemmas.Map.Steps.{length-le_from_distinct_below}
 use Rattle.frontier.specs.Heaps.{Distinct}
-
--- the k-th of the numbers without i
-abbrev skip : ℕ → ℕ → ℕ
-skip i k = cond (ltb k i) k (k + 1)
-
-skip_cases : (i k : ℕ) → ((k < i) × (skip i k ≡ k)) ⊎ ((i ≤ k) × (skip i k ≡ k + 1))
-skip_cases i k =
-    ⊎_elim (λ l. inl (l, cond-true _ k (k + 1) (lt-ltb k i l))) (λ l. inr (l, cond-false _ k (k + 1) (le-ltb k i l))) (cases_lt k i)
-
-skip_once : (i j k s t : ℕ) → ((j < i) × (s ≡ j)) ⊎ ((i ≤ j) × (s ≡ j + 1)) → ((k < i) × (t ≡ k)) ⊎ ((i ≤ k) × (t ≡ k + 1)) → s ≡ t → j ≡ k
-skip_once i j k s t p q e = grind arith
-
-module _ (f : ℕ → ℕ) (v : ℕ) where
-  -- some value is v, or none
-  find : (n : ℕ) → ((i : ℕ) × (i < n) × (f i ≡ v)) ⊎ ((i : ℕ) → i < n → f i ≡ v → ⊥)
-  find zero = inr (λ i l e. omega arith)
-  find (suc n) =
-      ⊎_elim
-      (λ e. inl (n, omega arith, e))
-      (λ ne.
-      ⊎_elim
-      (λ w. inl (w.0, omega (arith, w.1), w.2))
-      (λ none.
-      inr (λ i l e.
-      ⊎_elim (λ q. ne (ap f (sym q) ∙ e)) (λ nq. none i (omega arith) e) (cases_eq i n)))
-      (find n))
-      (cases_eq (f n) v)
 
 -- numbers below m that all differ are at most m
 few : (m n : ℕ) (f : ℕ → ℕ) → ((i : ℕ) → i < n → f i < m) → ((i j : ℕ) → i < n → j < n → f i ≡ f j → i ≡ j) → n ≤ m
-few zero n f low once = ⊎_elim (λ s. absurd (omega (arith, low 0 s))) (λ s. s) (cases_lt 0 n)
-few (suc m) n f low once =
-    ⊎_elim
-    (λ w.
-    let i = w.0 in
-    let within : (k : ℕ) → k < n - 1 → skip i k < n = λ k l. ⊎_elim (λ u. omega (arith, u.1)) (λ u. omega (arith, u.1)) (skip_cases i k) in
-    let rest : n - 1 ≤ m =
-    few m (n - 1) (λ k. f (skip i k))
-    (λ k l.
-    let ne : f (skip i k) ≡ m → ⊥ =
-    λ e.
-    let same = once (skip i k) i (within k l) w.1 (e ∙ sym w.2) in
-    ⊎_elim (λ u. omega (arith, u.0, u.1, same)) (λ u. omega (arith, u.0, u.1, same)) (skip_cases i k) in
-    omega (arith, low (skip i k) (within k l), ne))
-    (λ j k p q e. skip_once i j k (skip i j) (skip i k) (skip_cases i j) (skip_cases i k) (once _ _ (within j p) (within k q) e)) in
-    omega arith)
-    (λ none.
-    let rest = few m n f (λ i l. let ne : f i ≡ m → ⊥ = λ e. none i l e in omega (arith, low i l, ne)) once in
-    omega arith)
-    (find f m n)
+few m n f low once =
+    let ks = map f (range_with_len 0 n) in
+    let long = length-map-range_with_len f 0 n in
+    let at : (i d : ℕ) → i < n → get_or ks i d ≡ f i = λ i d l. get_or-map-range_with_len f 0 n i i d l (omega arith) in
+    let apart : IsDistinct eqb ks =
+    IsDistinct-from_apart eqb ks
+    (λ i j d lt l.
+    let p : i < n = omega arith in
+    let q : j < n = omega arith in
+    ne_eqb _ _ (λ e. let same = once i j p q (sym (at i d p) ∙ e ∙ at j d q) in omega arith)) in
+    let below : (q : ℕ) → list_any (eqb q) ks ≡ true → q < m =
+    λ q h.
+    let w = Any-from_list_any (eqb q) ks h in
+    let l : w.0 < n = omega (arith, w.2) in
+    let e = eqb-true q w.1 w.4 in
+    omega (arith, low w.0 l, at w.0 w.1 l, w.3, e) in
+    omega (arith, long, length-le_from_distinct_below ks m apart below)
 
 -- where the entries of a queue are told apart by numbers below m
 pub distinct_few : {X : Type 0} (number : X → ℕ) (xs : List X) (n m : ℕ) (d : X) → ((k : ℕ) → k < n → number (get_or xs k d) < m) →

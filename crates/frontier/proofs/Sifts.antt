@@ -1,9 +1,9 @@
 -- One exchange after another, until the heap is whole. Assumes nothing.
-use Rattle.std.proofs.Common.{◌≡◌, ℕ, ◌+◌, ◌*◌, ◌<◌, ◌≤◌, Bool, true, false, ◌⊎◌, List, get_or, set, sym, refl, ap, ◌∙◌, subst, ap₂, inl, inr, ⊎_elim, arith}
+use Rattle.std.proofs.Common.{◌≡◌, ℕ, ◌<◌, Bool, true, false, List, get_or, set, sym, refl, ap, ◌∙◌, subst, ap₂, ⊎_elim, arith}
 use Rattle.std.proofs.lemmas.Bool.{cases_eq}
-use Rattle.frontier.specs.Heaps.{parent, Queued, Sinking, SoonerChild}
+use Rattle.frontier.specs.Heaps.{parent, Sinking, SoonerChild}
 use Rattle.frontier.specs.Orders.{Order}
-use Rattle.frontier.proofs.Ranks.{chain, itself}
+use Rattle.frontier.proofs.Ranks.{chain}
 
 -- the entries at a and b have changed places, as the contract of `swap` has it
 abbrev pub Swapped : {X : Type 0} → List X → List X → ℕ → ℕ → Type 0
@@ -24,21 +24,6 @@ module _ {X : Type 0} (before : X → X → Bool) where
   moved p q f = ap₂ before p q ∙ f
 
   module _ (o : Order before) (xs : List X) (n h : ℕ) where
-    pub rise_begins : n ≡ h + 1 → Queued before xs h → Rising before xs n h
-    unfolding Queued
-    rise_begins e q = record {
-      others = λ i d p l ne. q i d p (omega arith);
-      around = λ i d p l c s. absurd (omega arith);
-    }
-
-    pub rise_ends : (w : Rising before xs n h) → (0 < h → (d : X) → before (get_or xs h d) (get_or xs (parent h) d) ≡ false) → Queued before xs n
-    unfolding Queued
-    rise_ends w here i d p l =
-        ⊎_elim
-        (λ e. let s : 0 < h = omega arith in subst (λ k. before (get_or xs k d) (get_or xs (parent k) d) ≡ false) (sym e) (here s d))
-        (λ ne. w.others i d p l ne)
-        (cases_eq i h)
-
     pub rise_steps : (ys : List X) → 0 < h → h < n → ((d : X) → before (get_or xs h d) (get_or xs (parent h) d) ≡ true) → Swapped xs ys h (parent h) →
         Rising before xs n h → Rising before ys n (parent h)
     rise_steps ys s lt sooner w r =
@@ -79,53 +64,7 @@ module _ {X : Type 0} (before : X → X → Bool) where
               (cases_eq i h);
         }
 
-    pub sink_ends : Sinking before xs n h → ((i : ℕ) (d : X) → 0 < i → i < n → parent i ≡ h → before (get_or xs i d) (get_or xs h d) ≡ false) → Queued before xs n
-    unfolding Queued
-    sink_ends w here i d p l =
-        ⊎_elim
-        (λ e. moved refl (ap (λ k. get_or xs k d) e) (here i d p l e))
-        (λ ne. w.others i d p l ne)
-        (cases_eq (parent i) h)
-
-    -- a child of h is the left or the right one
-    pub child_cases : (i : ℕ) → 0 < i → parent i ≡ h → (i ≡ 2 * h + 1) ⊎ (i ≡ 2 * h + 1 + 1)
-    child_cases i p e = ⊎_elim inl (λ ne. inr (omega arith)) (cases_eq i (2 * h + 1))
-
-    pub left_child : 2 * h + 1 < n → (2 * h + 1 + 1 < n → (d : X) → before (get_or xs (2 * h + 1 + 1) d) (get_or xs (2 * h + 1) d) ≡ false) →
-        SoonerChild before xs n h (2 * h + 1)
-    left_child lt right = record {
-      some = omega arith;
-      within = lt;
-      child = omega arith;
-      first = λ i d p l e.
-          ⊎_elim
-          (λ q. moved (ap (λ k. get_or xs k d) q) refl (itself before o _))
-          (λ q. let r : 2 * h + 1 + 1 < n = omega arith in moved (ap (λ k. get_or xs k d) q) refl (right r d))
-          (child_cases i p e);
-    }
-
-    pub right_child : 2 * h + 1 + 1 < n → ((d : X) → before (get_or xs (2 * h + 1 + 1) d) (get_or xs (2 * h + 1) d) ≡ true) →
-        SoonerChild before xs n h (2 * h + 1 + 1)
-    right_child lt right = record {
-      some = omega arith;
-      within = lt;
-      child = omega arith;
-      first = λ i d p l e.
-          ⊎_elim
-          (λ q. moved (ap (λ k. get_or xs k d) q) refl (o.oneway _ _ (right d)))
-          (λ q. moved (ap (λ k. get_or xs k d) q) refl (itself before o _))
-          (child_cases i p e);
-    }
-
-    -- the entry has no child
-    pub sink_bottom : n ≤ 2 * h + 1 → Sinking before xs n h → Queued before xs n
-    sink_bottom le w = sink_ends w (λ i d p l e. absurd (omega arith))
-
     module _ (c : ℕ) (k : SoonerChild before xs n h c) where
-      -- the child that comes first does not come before the entry
-      pub sink_rests : ((d : X) → before (get_or xs c d) (get_or xs h d) ≡ false) → Sinking before xs n h → Queued before xs n
-      sink_rests rests w = sink_ends w (λ i d p l e. chain before o _ _ _ (k.first i d p l e) (rests d))
-
       pub sink_steps : (ys : List X) → ((d : X) → before (get_or xs c d) (get_or xs h d) ≡ true) → Swapped xs ys h c → Sinking before xs n h → Sinking before ys n c
       sink_steps ys sooner w r =
           let up = k.child in

@@ -1,5 +1,6 @@
 -- A queue in the first entries of a slice, as a binary heap. Assumes nothing.
 use Rattle.std.specs.Prelude.{◌≡◌, ℕ, ◌-◌, ◌/◌, ◌<◌, Bool, true, false, ◌⊎◌, List, ◌∷◌, take, ◌≢◌, slice_index_or}
+use Rattle.std.specs.Coded.{Coded-set, coded_bool, Π_prop, →_prop}
 use Rattle.std.specs.List.Sorted.{IsPermutation}
 
 -- the place of an entry's parent in the heap
@@ -9,6 +10,10 @@ parent i = (i - 1) / 2
 -- of the first n entries, none comes before its parent
 unfoldable pub Queued : {X : Type 0} → (X → X → Bool) → List X → ℕ → Type 0
 Queued {X} before xs n = (i : ℕ) (d : X) → 0 < i → i < n → before (slice_index_or xs i d) (slice_index_or xs (parent i) d) ≡ false
+
+pub Queued-prop : {X : Type 0} (before : X → X → Bool) (xs : List X) (n : ℕ) → IsProp (Queued before xs n)
+unfolding Queued
+Queued-prop before xs n = Π_prop (λ i. Π_prop (λ d. →_prop (→_prop (Coded-set coded_bool _ _))))
 
 -- each of the first n entries is x, or x comes before it
 abbrev pub First : {X : Type 0} → (X → X → Bool) → List X → ℕ → X → Type 0

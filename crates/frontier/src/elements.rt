@@ -6,7 +6,7 @@ ghost use Rattle.std.proofs.Common.{rules};
 use crate::order::Ranked;
 
 // A commit by its number: the greatest number comes first.
-#[derive(Clone, Copy)]
+#[derive(Clone, Copy, PartialEq, Eq, Debug)]
 pub struct ByNumber {
     pub number: u32,
 }
@@ -22,7 +22,7 @@ impl Ranked for ByNumber {
 }
 
 // A commit by its date: the latest comes first, and of equal dates the greatest number.
-#[derive(Clone, Copy)]
+#[derive(Clone, Copy, PartialEq, Eq, Debug)]
 pub struct ByDate {
     pub date: u64,
     pub number: u32,
@@ -34,12 +34,13 @@ impl Ranked for ByDate {
     ghost ordered = { Prim.search rules };
 
     fn comes_first(self, other: ByDate) -> bool {
-        self.date > other.date || (self.date == other.date && self.number > other.number)
+        (self.date, self.number) > (other.date, other.number)
     }
 }
 
-// A commit of a file by its level: the lowest comes first, and of equal levels the lowest position in the file.
-#[derive(Clone, Copy)]
+// A commit of a file by its level: the lowest comes first, and of equal levels the lowest position in the file. Not one type with `ByDate`: each names
+// its parts, and one wants the greatest first, the other the least.
+#[derive(Clone, Copy, PartialEq, Eq, Debug)]
 pub struct ByLevel {
     pub level: u32,
     pub position: u32,
@@ -51,6 +52,6 @@ impl Ranked for ByLevel {
     ghost ordered = { Prim.search rules };
 
     fn comes_first(self, other: ByLevel) -> bool {
-        self.level < other.level || (self.level == other.level && self.position < other.position)
+        (self.level, self.position) < (other.level, other.position)
     }
 }

@@ -11,4 +11,4 @@ mod queue;
 pub use elements::{ByDate, ByLevel, ByNumber};
 pub use marks::clear;
 pub use order::Ranked;
-pub use queue::{push, take_out};
+pub use queue::Queue;

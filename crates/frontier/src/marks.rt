@@ -7,7 +7,5 @@ pub fn clear(marks: &mut [u8], used: usize)
     ensures zero { (k : ℕ) → k < used → slice_index marks.new k ≡ 0 }
     ensures rest { drop used marks.new ≡ drop used marks.old }
 {
-    for i in 0..used {
-        marks[i] = 0;
-    }
+    marks[..used].fill(0);
 }

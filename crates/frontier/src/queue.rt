@@ -1,32 +1,66 @@
 // A queue in the first entries of a slice.
 ghost use Rattle.std.specs.Prelude.{◌≡◌, ◌+◌, ◌<◌, ◌≤◌, ◌∷◌, length, take, drop, MatchOption};
 ghost use Rattle.std.specs.List.Sorted.{IsPermutation};
-ghost use Rattle.frontier.specs.Heaps.{Queued, TakenOut};
+ghost use Rattle.frontier.specs.Heaps.{Queued, Queued-prop, TakenOut};
 
 use crate::heap::{put_last, take_first};
 use crate::order::Ranked;
 
-// Puts x into the queue that the first `count` entries hold.
-pub fn push<T: Ranked>(queue: &mut [T], count: usize, x: T)
-    requires room { count < length queue.old }
-    requires queued { Queued T.Ranked.before queue.old count }
-    ensures queued { Queued T.Ranked.before queue.new (count + 1) }
-    ensures holds { IsPermutation (x ∷ take count queue.old) (take (count + 1) queue.new) }
-    ensures rest { drop (count + 1) queue.new ≡ drop (count + 1) queue.old }
-{
-    put_last(&mut queue[0..count + 1], count, x);
+// The elements that wait, in the first `count` entries that the caller lends.
+#[derive(Drop)]
+pub struct Queue<'q, T: Ranked> {
+    pub(crate) entries: &'q mut [T],
+    pub(crate) count: usize,
+    ghost within: { count ≤ length entries.now },
+    ghost queued: { Queued T.Ranked.before entries.now count } by { Queued-prop T.Ranked.before entries.now count },
 }
 
-// Takes out the element that comes first of the queue that the first `count` entries hold, if there is one. The others are then in the
-// first count - 1 entries.
-pub fn take_out<T: Ranked>(queue: &mut [T], count: usize) -> Option<T>
-    requires within { count ≤ length queue.old }
-    requires queued { Queued T.Ranked.before queue.old count }
-    ensures cases { MatchOption result ((count ≡ 0) × (queue.new ≡ queue.old)) (λ x. TakenOut T.Ranked.before queue.old queue.new count x) }
-    ensures rest { drop count queue.new ≡ drop count queue.old }
-{
-    if count == 0 {
-        return None;
+#[tactic(auto, unfolding(crate::specs::Heaps::Queued))]
+impl<'q, T: Ranked> Queue<'q, T> {
+    // The queue that the first `count` entries hold.
+    pub fn of(entries: &'q mut [T], count: usize) -> Queue<'q, T>
+        requires within { count ≤ length entries.old }
+        requires queued { Queued T.Ranked.before entries.old count }
+        ensures count { result.count ≡ count }
+        ensures entries { result.entries.now ≡ entries.old }
+        ensures same_reference { result.entries.ghost_name ≡ entries.entry.ghost_name }
+    {
+        Queue { entries, count }
     }
-    Some(take_first(&mut queue[0..count], count - 1))
+
+    // An empty queue.
+    pub fn over(entries: &'q mut [T]) -> Queue<'q, T>
+        ensures empty { result.count ≡ 0 }
+        ensures entries { result.entries.now ≡ entries.old }
+        ensures same_reference { result.entries.ghost_name ≡ entries.entry.ghost_name }
+    {
+        Queue::of(entries, 0)
+    }
+
+    // Puts in x.
+    pub fn push(&mut self, x: T)
+        requires room { self.old.count < length self.old.entries.now }
+        ensures count { self.new.count ≡ self.old.count + 1 }
+        ensures holds { IsPermutation (x ∷ take self.old.count self.old.entries.now) (take self.new.count self.new.entries.now) }
+        ensures rest { drop self.new.count self.new.entries.now ≡ drop self.new.count self.old.entries.now }
+        ensures long { length self.new.entries.now ≡ length self.old.entries.now }
+        ensures same_reference { self.new.entries.ghost_name ≡ self.old.entries.ghost_name }
+    {
+        put_last(&mut self.entries[..self.count + 1], x);
+        self.count += 1;
+    }
+
+    // Takes out the element that comes first, if there is one.
+    pub fn pop(&mut self) -> Option<T>
+        ensures cases { MatchOption result ((self.old.count ≡ 0) × (self.new ≡ self.old)) (λ x. (self.new.count + 1 ≡ self.old.count) × TakenOut T.Ranked.before self.old.entries.now self.new.entries.now self.old.count x) }
+        ensures rest { drop self.old.count self.new.entries.now ≡ drop self.old.count self.old.entries.now }
+        ensures long { length self.new.entries.now ≡ length self.old.entries.now }
+        ensures same_reference { self.new.entries.ghost_name ≡ self.old.entries.ghost_name }
+    {
+        if self.count == 0 {
+            return None;
+        }
+        self.count -= 1;
+        Some(take_first(&mut self.entries[..self.count + 1]))
+    }
 }

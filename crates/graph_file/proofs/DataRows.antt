@@ -1,12 +1,14 @@
 -- The rows of CDAT. Assumes nothing.
-use Rattle.std.proofs.Common.{◌≡◌, ℕ, zero, suc, ◌+◌, ◌<◌, ◌≤◌, List, [], ◌∷◌, ◌++◌, length, get_or, take, sym, refl, ap, ◌∙◌, arith}
-use Rattle.std.proofs.lemmas.List.{length-append}
+use Rattle.std.proofs.Common.{◌≡◌, ℕ, zero, suc, ◌+◌, ◌/◌, ◌%◌, ◌<◌, List, [], ◌∷◌, ◌++◌, length, get_or, take, sym, refl, ap, ◌∙◌, arith}
+use Rattle.std.proofs.lemmas.List.{append_assoc, length-append}
 use Rattle.history.specs.History.{Commit, commit_of, parents_of}
 use Rattle.graph_file.specs.Encoding.{FileOrder, row_of_commit, rows_from, extra}
 use Rattle.graph_file.specs.Layout.{Row, row_bytes}
+use Rattle.graph_file.specs.declared.output.Output.{Output}
+use Rattle.graph_file.specs.Outputs.{Puts, Room}
 use Rattle.graph_file.specs.Placing.{placed, extras}
 use Rattle.graph_file.specs.Words.{word}
-use Rattle.graph_file.proofs.Placed.{placed_next}
+use Rattle.graph_file.proofs.Placed.{puts_next}
 
 abbrev pub blank_row : Row
 blank_row = record { tree = []; first = 0; second = 0; generation = 0; low = 0 }
@@ -20,17 +22,28 @@ pub same_row : {t u : List ℕ} {a a' b b' c c' d d' : ℕ} → t ≡ u → a �
 same_row t a b c d = cc
 
 -- the parts of a row, put one behind another
-pub row_placed : (d e₁ e₂ e₃ e₄ e₅ : List ℕ) (at : ℕ) (tree : List ℕ) (first second generation low : ℕ) → length tree ≡ 20 → at + 36 ≤ length d → length e₁ ≡ length d →
-    e₁ ≡ placed d at tree → e₂ ≡ placed e₁ (at + 20) (word first) → e₃ ≡ placed e₂ (at + 24) (word second) → e₄ ≡ placed e₃ (at + 28) (word generation) → e₅ ≡ placed e₄ (at + 32) (word low) →
-    e₅ ≡ placed d at (row_bytes (record { tree = tree; first = first; second = second; generation = generation; low = low }))
-row_placed d e₁ e₂ e₃ e₄ e₅ at tree first second generation low wide room long p₁ p₂ p₃ p₄ p₅ =
-    let a = word first in
-    let b = word second in
-    let c = word generation in
-    let q₃ = placed_next e₁ e₂ e₃ (at + 20) (at + 24) a b p₂ p₃ (omega arith) (omega arith) in
-    let q₄ = placed_next e₁ e₃ e₄ (at + 20) (at + 28) (a ++ b) c q₃ p₄ (omega arith) (omega arith) in
-    let q₅ = placed_next e₁ e₄ e₅ (at + 20) (at + 32) ((a ++ b) ++ c) (word low) q₄ p₅ (omega arith) (omega arith) in
-    placed_next d e₁ e₅ at (at + 20) tree (((a ++ b) ++ c) ++ word low) p₁ q₅ (omega arith) (omega arith)
+pub row_put : (o p₁ p₂ p₃ p₄ p₅ : Output) (tree first second generation low : List ℕ) → Room o 36 → length tree ≡ 20 → length first ≡ 4 → length second ≡ 4 → length generation ≡ 4 →
+    Puts o p₁ tree → Puts p₁ p₂ first → Puts p₂ p₃ second → Puts p₃ p₄ generation → Puts p₄ p₅ low →
+    p₁.at ≡ o.at + 20 → p₂.at ≡ p₁.at + 4 → p₃.at ≡ p₂.at + 4 → p₄.at ≡ p₃.at + 4 → Puts o p₅ (tree ++ (first ++ (second ++ (generation ++ low))))
+row_put o p₁ p₂ p₃ p₄ p₅ tree first second generation low room wide l₁ l₂ l₃ a b c d e h₁ h₂ h₃ h₄ =
+    let q₂ = puts_next o p₁ p₂ tree first a (omega arith) b (omega arith) in
+    let q₃ = puts_next o p₂ p₃ (tree ++ first) second q₂ (omega (arith, length-append tree first)) c (omega arith) in
+    let q₄ = puts_next o p₃ p₄ ((tree ++ first) ++ second) generation q₃ (omega (arith, length-append tree first, length-append (tree ++ first) second)) d (omega arith) in
+    puts_next o p₄ p₅ (((tree ++ first) ++ second) ++ generation) low q₄
+    (omega (arith, length-append tree first, length-append (tree ++ first) second, length-append ((tree ++ first) ++ second) generation)) e (omega arith)
+    ∙ ap (placed o.bytes.now o.at) (let z : (((tree ++ first) ++ second) ++ generation) ++ low ≡ tree ++ (first ++ (second ++ (generation ++ low))) = simp append_assoc in z)
+
+pub same_bytes : {t u a b c d a' b' c' d' : List ℕ} → t ≡ u → a ≡ a' → b ≡ b' → c ≡ c' → d ≡ d' → t ++ (a ++ (b ++ (c ++ d))) ≡ u ++ (a' ++ (b' ++ (c' ++ d')))
+same_bytes t a b c d = cc
+
+-- a word has the low 32 bits
+pub word_low : (x : ℕ) → word (x % 4294967296) ≡ word x
+word_low x =
+    let p : x % 4294967296 / 16777216 % 256 ≡ x / 16777216 % 256 = omega arith in
+    let q : x % 4294967296 / 65536 % 256 ≡ x / 65536 % 256 = omega arith in
+    let r : x % 4294967296 / 256 % 256 ≡ x / 256 % 256 = omega arith in
+    let s : x % 4294967296 % 256 ≡ x % 256 = omega arith in
+    cc
 
 module _ (h : List Commit) (order : List ℕ) where
   pub length_rows : (ns : List ℕ) (start : ℕ) → length (rows_from h order start ns) ≡ length ns

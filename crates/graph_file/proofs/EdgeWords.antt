@@ -1,14 +1,16 @@
 -- The words of EDGE. Assumes nothing.
-use Rattle.std.proofs.Common.{◌≡◌, ℕ, zero, suc, ◌+◌, ◌-◌, ◌*◌, ◌<◌, ◌≤◌, cond, ltb, List, [], ◌∷◌, ◌++◌, length, get_or, take, drop, sym, refl, ap, ◌∙◌, subst, ap₂, ⊎_elim, arith}
+use Rattle.std.proofs.Common.{◌≡◌, ℕ, suc, ◌+◌, ◌-◌, ◌*◌, ◌<◌, ◌≤◌, List, [], ◌∷◌, ◌++◌, length, get_or, take, drop, sym, refl, ap, ◌∙◌, ap₂, arith}
 use Rattle.std.specs.List.{flat_map}
-use Rattle.std.proofs.lemmas.List.{length-append, append_assoc, take_more, take_all, take_rest, flat_map_more, length-drop, get_or-drop}
-use Rattle.std.proofs.lemmas.Bool.{cases_lt, lt-ltb, le-ltb, cond-true, cond-false}
+use Rattle.std.proofs.lemmas.List.{length-append, append_assoc, take_more, take_all, take_rest, flat_map_more, length-drop}
+use Rattle.std.proofs.lemmas.Bool.{lt-ltb, le-ltb, cond-true, cond-false}
 use Rattle.history.specs.History.{Commit, parents_of}
-use Rattle.graph_file.specs.Encoding.{position, extra, closed, edges_from}
+use Rattle.graph_file.specs.Encoding.{position, positions, extra, closed, edges_from}
 use Rattle.graph_file.specs.Layout.{edge_bytes}
+use Rattle.graph_file.specs.declared.output.Output.{Output}
+use Rattle.graph_file.specs.Outputs.{Puts}
 use Rattle.graph_file.specs.Placing.{placed, extras}
 use Rattle.graph_file.specs.Words.{word}
-use Rattle.graph_file.proofs.Placed.{placed_next, length_joined}
+use Rattle.graph_file.proofs.Placed.{puts_next, length_joined}
 
 pub extra_many : (ps : List ℕ) → 2 < length ps → extra ps ≡ length ps - 1
 extra_many ps lt = cond-true _ _ _ (lt-ltb 2 (length ps) lt)
@@ -20,33 +22,29 @@ rest_of ps = take (length ps - 1) (drop 1 ps)
 pub rest_length : (ps : List ℕ) → length (rest_of ps) ≡ length ps - 1
 rest_length ps = ap length (take_rest ps 1) ∙ length-drop 1 ps
 
-pub rest_held : (ps : List ℕ) (n : ℕ) → ((k : ℕ) → k < length ps → get_or ps k 0 < n) → (k : ℕ) → k < length (rest_of ps) → get_or (rest_of ps) k 0 < n
-rest_held ps n held k lt =
-    subst (λ x. x < n) (sym (ap (λ l. get_or l k 0) (take_rest ps 1) ∙ get_or-drop 1 ps k 0)) (held (1 + k) (omega (arith, rest_length ps)))
-
-ltb_suc : (i j n : ℕ) → j ≡ i + 1 → ltb i n ≡ ltb j (suc n)
-ltb_suc i j n e =
-    ⊎_elim
-    (λ lt. lt-ltb i n lt ∙ sym (lt-ltb j (suc n) (omega arith)))
-    (λ le. le-ltb i n le ∙ sym (le-ltb j (suc n) (omega arith)))
-    (cases_lt i n)
-
 module _ (order : List ℕ) where
   pub length_closed : (ps : List ℕ) → length (closed order ps) ≡ length ps
   length_closed [] = refl
   length_closed (p ∷ []) = refl
   length_closed (p ∷ (q ∷ ps)) = ap suc (length_closed (q ∷ ps))
 
-  -- a word is a position, and the last is marked
-  pub closed_at : (ps : List ℕ) (k : ℕ) → k < length ps → get_or (closed order ps) k 0 ≡ cond (ltb (k + 1) (length ps)) 0 2147483648 + position order (get_or ps k 0)
-  unfolding ltb_suc
-  closed_at [] k lt = absurd (omega arith)
-  closed_at (p ∷ []) zero lt = refl
-  closed_at (p ∷ []) (suc k) lt = absurd (omega arith)
-  closed_at (p ∷ (q ∷ ps)) zero lt =
-      (let z : position order p ≡ 0 + position order p = omega arith in z) ∙ ap (λ n. n + position order p) (sym (cond-true (ltb 1 (length (p ∷ (q ∷ ps)))) 0 2147483648 (lt-ltb 1 (length (p ∷ (q ∷ ps))) (omega arith))))
-  closed_at (p ∷ (q ∷ ps)) (suc k) lt =
-      closed_at (q ∷ ps) k (omega arith) ∙ ap (λ b. cond b 0 2147483648 + position order (get_or (q ∷ ps) k 0)) (ltb_suc (k + 1) (suc k + 1) (length (q ∷ ps)) (omega arith))
+  pub closed_none : (rest : List ℕ) → length rest < 1 → closed order rest ≡ []
+  closed_none [] lt = refl
+  closed_none (p ∷ rest) lt = absurd (omega arith)
+
+  -- the words are positions, and the last is marked
+  closed_last : (others : List ℕ) (p : ℕ) → closed order (others ++ (p ∷ [])) ≡ positions order others ++ ((2147483648 + position order p) ∷ [])
+  closed_last [] p = refl
+  closed_last (q ∷ []) p = refl
+  closed_last (q ∷ (r ∷ others)) p = ap (λ l. position order q ∷ l) (closed_last (r ∷ others) p)
+
+  pub closed_split : (rest : List ℕ) → 0 < length rest →
+      closed order rest ≡ positions order (take (length rest - 1) rest) ++ ((2147483648 + position order (get_or rest (length rest - 1) 0)) ∷ [])
+  unfolding closed_last
+  closed_split rest lt =
+      let n = length rest - 1 in
+      let whole : rest ≡ take n rest ++ (get_or rest n 0 ∷ []) = sym (take_all (n + 1) rest (omega arith)) ∙ take_more rest n 0 (omega arith) in
+      ap (closed order) whole ∙ closed_last (take n rest) (get_or rest n 0)
 
   pub edges_many : (ps : List ℕ) → 2 < length ps → edges_from order ps ≡ closed order (rest_of ps)
   edges_many [] lt = absurd (omega arith)
@@ -80,15 +78,15 @@ pub length_edge_bytes : (xs : List ℕ) → length (edge_bytes xs) ≡ 4 * lengt
 length_edge_bytes xs = length_joined word 4 0 xs (λ _ _. refl)
 
 -- a loop that puts one commit's words behind another's
-module _ (f : ℕ → List ℕ) (d e : List ℕ) (at i : ℕ) (order : List ℕ) where
-  pub edges_grow : (e' : List ℕ) (here n : ℕ) → i < length order → n ≡ get_or order i 0 → e ≡ placed d at (edge_bytes (flat_map f (take i order))) → e' ≡ placed e here (edge_bytes (f n)) →
-      here ≡ at + 4 * length (flat_map f (take i order)) → at ≤ length d → e' ≡ placed d at (edge_bytes (flat_map f (take (i + 1) order)))
+module _ (f : ℕ → List ℕ) (o p : Output) (i : ℕ) (order : List ℕ) where
+  pub edges_grow : (q : Output) (n : ℕ) → i < length order → n ≡ get_or order i 0 → Puts o p (edge_bytes (flat_map f (take i order))) → p.at ≡ o.at + 4 * length (flat_map f (take i order)) →
+      Puts p q (edge_bytes (f n)) → o.at ≤ length o.bytes.now → Puts o q (edge_bytes (flat_map f (take (i + 1) order)))
   unfolding edge_bytes_append
-  edges_grow e' here n lt is p q place le =
+  edges_grow q n lt is a here b le =
       let so_far = flat_map f (take i order) in
-      placed_next d e e' at here (edge_bytes so_far) (edge_bytes (f n)) p q (omega (arith, length_edge_bytes so_far)) le
-      ∙ ap (placed d at) (sym (edge_bytes_append so_far (f n)))
-      ∙ ap (λ s. placed d at (edge_bytes s)) (ap (λ m. so_far ++ f m) is ∙ flat_map_more f [] (take i order) (get_or order i 0) ∙ ap (flat_map f) (sym (take_more order i 0 lt)))
+      puts_next o p q (edge_bytes so_far) (edge_bytes (f n)) a (omega (arith, length_edge_bytes so_far)) b le
+      ∙ ap (placed o.bytes.now o.at) (sym (edge_bytes_append so_far (f n)))
+      ∙ ap (λ s. placed o.bytes.now o.at (edge_bytes s)) (ap (λ m. so_far ++ f m) is ∙ flat_map_more f [] (take i order) (get_or order i 0) ∙ ap (flat_map f) (sym (take_more order i 0 lt)))
 
-  pub edges_end : length order ≤ i → e ≡ placed d at (edge_bytes (flat_map f (take i order))) → e ≡ placed d at (edge_bytes (flat_map f order))
-  edges_end le p = p ∙ ap (λ s. placed d at (edge_bytes (flat_map f s))) (take_all i order le)
+  pub edges_end : length order ≤ i → Puts o p (edge_bytes (flat_map f (take i order))) → Puts o p (edge_bytes (flat_map f order))
+  edges_end le a = a ∙ ap (λ s. placed o.bytes.now o.at (edge_bytes (flat_map f s))) (take_all i order le)

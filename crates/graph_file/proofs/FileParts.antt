@@ -1,15 +1,17 @@
 -- A file as its parts. Assumes nothing.
-use Rattle.std.proofs.Common.{◌≡◌, ℕ, ◌+◌, ◌*◌, ◌<◌, List, [], ◌++◌, length, get_or, sym, refl, ap, ◌∙◌, ap₂, arith}
+use Rattle.std.proofs.Common.{◌≡◌, ℕ, ◌+◌, ◌*◌, ◌<◌, ◌≤◌, List, [], ◌++◌, length, get_or, sym, refl, ap, ◌∙◌, ap₂, arith}
 use Rattle.std.specs.List.{range_with_len, flat_map}
 use Rattle.std.proofs.lemmas.List.FromFn.{length-range_with_len}
 use Rattle.std.proofs.lemmas.List.{append_assoc, length-append}
 use Rattle.graph_file.specs.Layout.{Row, Layout, first_place, file_length, header, contents, fan_out, fan_out_bytes, id_bytes, data_bytes, edge_bytes, row_bytes, file_bytes}
+use Rattle.graph_file.specs.declared.output.Output.{Output}
+use Rattle.graph_file.specs.Outputs.{Puts}
 use Rattle.graph_file.specs.Placing.{placed}
 use Rattle.graph_file.specs.Words.{word}
 use Rattle.graph_file.proofs.DataRows.{blank_row}
 use Rattle.graph_file.proofs.EdgeWords.{length_edge_bytes}
 use Rattle.graph_file.proofs.Fronts.{length_front}
-use Rattle.graph_file.proofs.Placed.{placed_next, length_joined}
+use Rattle.graph_file.proofs.Placed.{puts_next, length_joined}
 
 abbrev pub chunk_bytes : Layout → List ℕ
 chunk_bytes l = fan_out_bytes l.ids ++ (id_bytes l.ids ++ (data_bytes l.rows ++ edge_bytes l.edges))
@@ -18,20 +20,15 @@ pub same_layout : {i j : List (List ℕ)} {r s : List Row} {e f : List ℕ} → 
     ◌≡◌ {A = Layout} (record { ids = i; rows = r; edges = e }) (record { ids = j; rows = s; edges = f })
 same_layout a b c = cc
 
-regroup : (a b c d e f : List ℕ) → ((((a ++ b) ++ c) ++ d) ++ e) ++ f ≡ a ++ (b ++ (c ++ (d ++ (e ++ f))))
-regroup a b c d e f = simp append_assoc
-
 -- five parts, put one behind another
-five_placed : (x e₁ e₂ e₃ e₄ e₅ a b c d e f : List ℕ) (p₂ p₃ p₄ p₅ : ℕ) → e₁ ≡ placed x 0 (a ++ b) → e₂ ≡ placed e₁ p₂ c → e₃ ≡ placed e₂ p₃ d → e₄ ≡ placed e₃ p₄ e → e₅ ≡ placed e₄ p₅ f →
-    p₂ ≡ length (a ++ b) → p₃ ≡ p₂ + length c → p₄ ≡ p₃ + length d → p₅ ≡ p₄ + length e → e₅ ≡ placed x 0 (a ++ (b ++ (c ++ (d ++ (e ++ f)))))
-unfolding regroup
-five_placed x e₁ e₂ e₃ e₄ e₅ a b c d e f p₂ p₃ p₄ p₅ q₁ q₂ q₃ q₄ q₅ l₂ l₃ l₄ l₅ =
-    let r₂ = placed_next x e₁ e₂ 0 p₂ (a ++ b) c q₁ q₂ (omega arith) (omega arith) in
-    let r₃ = placed_next x e₂ e₃ 0 p₃ ((a ++ b) ++ c) d r₂ q₃ (omega (arith, length-append (a ++ b) c)) (omega arith) in
-    let r₄ = placed_next x e₃ e₄ 0 p₄ (((a ++ b) ++ c) ++ d) e r₃ q₄ (omega (arith, length-append (a ++ b) c, length-append ((a ++ b) ++ c) d)) (omega arith) in
-    placed_next x e₄ e₅ 0 p₅ ((((a ++ b) ++ c) ++ d) ++ e) f r₄ q₅
-    (omega (arith, length-append (a ++ b) c, length-append ((a ++ b) ++ c) d, length-append (((a ++ b) ++ c) ++ d) e)) (omega arith)
-    ∙ ap (placed x 0) (regroup a b c d e f)
+five_put : (o p₁ p₂ p₃ p₄ p₅ : Output) (a b c d e : List ℕ) → o.at ≤ length o.bytes.now → Puts o p₁ a → Puts p₁ p₂ b → Puts p₂ p₃ c → Puts p₃ p₄ d → Puts p₄ p₅ e →
+    p₁.at ≡ o.at + length a → p₂.at ≡ p₁.at + length b → p₃.at ≡ p₂.at + length c → p₄.at ≡ p₃.at + length d → Puts o p₅ (a ++ (b ++ (c ++ (d ++ e))))
+five_put o p₁ p₂ p₃ p₄ p₅ a b c d e le q₁ q₂ q₃ q₄ q₅ h₁ h₂ h₃ h₄ =
+    let r₂ = puts_next o p₁ p₂ a b q₁ h₁ q₂ le in
+    let r₃ = puts_next o p₂ p₃ (a ++ b) c r₂ (omega (arith, length-append a b)) q₃ le in
+    let r₄ = puts_next o p₃ p₄ ((a ++ b) ++ c) d r₃ (omega (arith, length-append a b, length-append (a ++ b) c)) q₄ le in
+    puts_next o p₄ p₅ (((a ++ b) ++ c) ++ d) e r₄ (omega (arith, length-append a b, length-append (a ++ b) c, length-append ((a ++ b) ++ c) d)) q₅ le
+    ∙ ap (placed o.bytes.now o.at) (let z : (((a ++ b) ++ c) ++ d) ++ e ≡ a ++ (b ++ (c ++ (d ++ e))) = simp append_assoc in z)
 
 length_fans : (ids : List (List ℕ)) (n : ℕ) → length (flat_map (λ i. word (fan_out ids i)) (range_with_len 0 n)) ≡ 4 * n
 length_fans ids n = length_joined (λ i. word (fan_out ids i)) 4 0 (range_with_len 0 n) (λ _ _. refl) ∙ ap (λ k. 4 * k) (length-range_with_len 0 n)
@@ -58,13 +55,15 @@ module _ (l : Layout) (ids_wide : (k : ℕ) → k < length l.ids → length (get
   rows_long : length (data_bytes l.rows) ≡ 36 * length l.rows
   rows_long = length_data_bytes l.rows rows_wide
 
-  pub file_placed : (x e₁ e₂ e₃ e₄ e₅ : List ℕ) (p₂ p₃ p₄ p₅ : ℕ) → e₁ ≡ placed x 0 (header l.edges ++ contents l) → e₂ ≡ placed e₁ p₂ (fan_out_bytes l.ids) →
-      e₃ ≡ placed e₂ p₃ (id_bytes l.ids) → e₄ ≡ placed e₃ p₄ (data_bytes l.rows) → e₅ ≡ placed e₄ p₅ (edge_bytes l.edges) → p₂ ≡ first_place l.edges → p₃ ≡ p₂ + 1024 →
-      p₄ ≡ p₃ + 20 * length l.ids → p₅ ≡ p₄ + 36 * length l.rows → e₅ ≡ placed x 0 (file_bytes l)
-  unfolding five_placed ids_long rows_long
-  file_placed x e₁ e₂ e₃ e₄ e₅ p₂ p₃ p₄ p₅ q₁ q₂ q₃ q₄ q₅ l₂ l₃ l₄ l₅ =
-      five_placed x e₁ e₂ e₃ e₄ e₅ (header l.edges) (contents l) (fan_out_bytes l.ids) (id_bytes l.ids) (data_bytes l.rows) (edge_bytes l.edges) p₂ p₃ p₄ p₅ q₁ q₂ q₃ q₄ q₅
-      (l₂ ∙ sym (length_front l)) (l₃ ∙ ap (λ n. p₂ + n) (sym (length_fan_out_bytes l.ids))) (l₄ ∙ ap (λ n. p₃ + n) (sym ids_long)) (l₅ ∙ ap (λ n. p₄ + n) (sym rows_long))
+  pub file_put : (o p₁ p₂ p₃ p₄ p₅ : Output) → o.at ≤ length o.bytes.now → Puts o p₁ (header l.edges ++ contents l) → Puts p₁ p₂ (fan_out_bytes l.ids) →
+      Puts p₂ p₃ (id_bytes l.ids) → Puts p₃ p₄ (data_bytes l.rows) → Puts p₄ p₅ (edge_bytes l.edges) → p₁.at ≡ o.at + first_place l.edges → p₂.at ≡ p₁.at + 1024 →
+      p₃.at ≡ p₂.at + 20 * length l.ids → p₄.at ≡ p₃.at + 36 * length l.rows → Puts o p₅ (file_bytes l)
+  unfolding five_put ids_long rows_long
+  file_put o p₁ p₂ p₃ p₄ p₅ le q₁ q₂ q₃ q₄ q₅ h₁ h₂ h₃ h₄ =
+      five_put o p₁ p₂ p₃ p₄ p₅ (header l.edges ++ contents l) (fan_out_bytes l.ids) (id_bytes l.ids) (data_bytes l.rows) (edge_bytes l.edges) le q₁ q₂ q₃ q₄ q₅
+      (h₁ ∙ ap (λ n. o.at + n) (sym (length_front l))) (h₂ ∙ ap (λ n. p₁.at + n) (sym (length_fan_out_bytes l.ids))) (h₃ ∙ ap (λ n. p₂.at + n) (sym ids_long))
+      (h₄ ∙ ap (λ n. p₃.at + n) (sym rows_long))
+      ∙ ap (placed o.bytes.now o.at) (append_assoc (header l.edges) (contents l) (chunk_bytes l))
 
   pub chunks_long : length (chunk_bytes l) ≡ 1024 + 20 * length l.ids + 36 * length l.rows + 4 * length l.edges
   unfolding four_lengths ids_long rows_long

@@ -16,7 +16,7 @@ use Rattle.history.proofs.Ids.{not_before_itself}
 use Rattle.history.proofs.Lists.{get_d_map_take}
 use Rattle.graph_file.specs.Encoding.{FileOrder, position}
 use Rattle.graph_file.specs.Placing.{Filed, extras, listed, ids_of}
-use Rattle.graph_file.proofs.Sources.{length_listed, number_listed}
+use Rattle.graph_file.proofs.Sources.{length_listed, number_listed, next_within, next_number}
 
 -- the position is the first place of the number
 pub position_at : (order : List ℕ) (i n : ℕ) → i < length order → get_or order i 0 ≡ n → ((j : ℕ) → j < i → get_or order j 0 ≡ n → ⊥) → position order n ≡ i
@@ -65,37 +65,37 @@ module _ {K L : Type 0} {kind : Ghosts K L} (g : CommitGraph K L kind) (h : List
   pub filed_held : length h ≡ g.count
   filed_held = sym (ap length s.commits) ∙ graph_length g
 
-  pub filed_number : (i n : ℕ) → i < g.count → n ≡ get_or g.order.items.now i 0 → n ≡ get_or order i 0
-  filed_number i n lt e = number_listed g i n lt e ∙ ap (λ l. get_or l i 0) s.sorted
+  pub filed_number : (ns : List ℕ) → ns ≡ listed g → (i : ℕ) → get_or ns i 0 ≡ get_or order i 0
+  filed_number ns all i = ap (λ l. get_or l i 0) (all ∙ s.sorted)
 
-  pub filed_commit : (n : ℕ) → n < g.count → commit_of h n ≡ commit g.parents.items.now (row_of g.rows.items.now n)
-  filed_commit n lt = sym (ap (λ l. commit_of l n) s.commits) ∙ commit_at g.rows.items.now g.parents.items.now g.count g.rowed n lt
+  pub filed_commit : (n : ℕ) → n < g.count → commit_of h n ≡ commit g.parents.now (row_of g.rows.now n)
+  filed_commit n lt = sym (ap (λ l. commit_of l n) s.commits) ∙ commit_at g.rows.now g.parents.now g.count g.rowed n lt
 
-  pub filed_level : (n : ℕ) → n < g.count → get_or (levels_of h) n 0 ≡ (row_of g.rows.items.now n).level
+  pub filed_level : (n : ℕ) → n < g.count → get_or (levels_of h) n 0 ≡ (row_of g.rows.now n).level
   filed_level n lt =
-      sym (ap (λ l. get_or l n 0) s.levels) ∙ get_d_map_take (λ r. r.level) g.rows.items.now g.count n no_row 0 g.rowed lt
+      sym (ap (λ l. get_or l n 0) s.levels) ∙ get_d_map_take (λ r. r.level) g.rows.now g.count n no_row 0 g.rowed lt
 
   -- the id that is read at a place
-  pub filed_id : (i n : ℕ) → i < g.count → n < g.count → n ≡ get_or g.order.items.now i 0 → (row_of g.rows.items.now n).id.bytes ≡ get_or (ids_of h order) i []
-  filed_id i n lt held e =
-      sym (ap (λ x. x.id) (filed_commit n held)) ∙ ap (λ a. (commit_of h a).id) (filed_number i n lt e)
-      ∙ sym (get_or-map (λ a. (commit_of h a).id) order i 0 [] (omega (arith, filed_length)))
+  pub filed_id : (ns : List ℕ) (all : ns ≡ listed g) (i : ℕ) → i < length ns → (row_of g.rows.now (get_or ns i 0)).id.bytes ≡ get_or (ids_of h order) i []
+  filed_id ns all i lt =
+      sym (ap (λ x. x.id) (filed_commit (get_or ns i 0) (next_number g ns all i lt))) ∙ ap (λ a. (commit_of h a).id) (filed_number ns all i)
+      ∙ sym (get_or-map (λ a. (commit_of h a).id) order i 0 [] (omega (arith, next_within g ns all i lt, filed_length)))
 
   pub ids_wide : (k : ℕ) → k < length (ids_of h order) → length (get_or (ids_of h order) k []) ≡ 20
   ids_wide = each_wide h order s.ordered s.wide
 
   -- how many ids come before that of a commit is its position
   pub place_is_position : (n place : ℕ) → n < g.count → place ≤ g.count →
-      Splits g.rows.items.now g.order.items.now g.count (row_of g.rows.items.now n).id.bytes place place → place ≡ position order n
+      Splits g.rows.now g.order.now g.count (row_of g.rows.now n).id.bytes place place → place ≡ position order n
   place_is_position n place lt le splits =
-      let rows = g.rows.items.now in
-      let items = g.order.items.now in
+      let rows = g.rows.now in
+      let items = g.order.now in
       let id = (row_of rows n).id.bytes in
       let long = filed_length in
       let q = s.ordered.complete n (omega (arith, filed_held)) in
       let i = q.0 in
       let li : i < g.count = omega (arith, q.1) in
-      let number : get_or items i 0 ≡ n = filed_number i (get_or items i 0) li refl ∙ q.2 in
+      let number : get_or items i 0 ≡ n = number_listed g i (get_or items i 0) li refl ∙ filed_number (listed g) refl i ∙ q.2 in
       let same : (row_of rows (get_or items i 0)).id.bytes ≡ id = ap (λ a. (row_of rows a).id.bytes) number in
       let there : place ≡ i =
       ⊎_elim (λ e. e) (λ d. absurd (⊎_elim
@@ -111,16 +111,16 @@ module _ {K L : Type 0} {kind : Ghosts K L} (g : CommitGraph K L kind) (h : List
   pub filed_parents : (n : ℕ) (ps : List ℕ) → ps ≡ parents_of (history g) n → ps ≡ parents_of h n
   filed_parents n ps e = e ∙ ap (λ l. parents_of l n) s.commits
 
-  pub filed_tree : (n : ℕ) (row : CommitRow) → n < g.count → row ≡ row_of g.rows.items.now n → row.tree.bytes ≡ (commit_of h n).tree
+  pub filed_tree : (n : ℕ) (row : CommitRow) → n < g.count → row ≡ row_of g.rows.now n → row.tree.bytes ≡ (commit_of h n).tree
   filed_tree n row lt e = ap (λ r. r.tree.bytes) e ∙ sym (ap (λ c. c.tree) (filed_commit n lt))
 
-  pub filed_wide : (n : ℕ) (row : CommitRow) → n < g.count → row ≡ row_of g.rows.items.now n → length row.tree.bytes ≡ 20
+  pub filed_wide : (n : ℕ) (row : CommitRow) → n < g.count → row ≡ row_of g.rows.now n → length row.tree.bytes ≡ 20
   filed_wide n row lt e = ap length (filed_tree n row lt e) ∙ (s.wide n (omega (arith, filed_held))).1
 
-  pub filed_date : (n : ℕ) (row : CommitRow) → n < g.count → row ≡ row_of g.rows.items.now n → row.date ≡ (commit_of h n).date
+  pub filed_date : (n : ℕ) (row : CommitRow) → n < g.count → row ≡ row_of g.rows.now n → row.date ≡ (commit_of h n).date
   filed_date n row lt e = ap (λ r. r.date) e ∙ sym (ap (λ c. c.date) (filed_commit n lt))
 
-  pub filed_generation : (n : ℕ) (row : CommitRow) → n < g.count → row ≡ row_of g.rows.items.now n →
+  pub filed_generation : (n : ℕ) (row : CommitRow) → n < g.count → row ≡ row_of g.rows.now n →
       row.level * 4 + row.date / 4294967296 ≡ get_or (levels_of h) n 0 * 4 + (commit_of h n).date / 4294967296
   filed_generation n row lt e =
       ap₂ (λ x y. x * 4 + y / 4294967296) (ap (λ r. r.level) e ∙ sym (filed_level n lt)) (filed_date n row lt e)

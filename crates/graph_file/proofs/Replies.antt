@@ -35,10 +35,10 @@ module _ {K L : Type 0} {kind : Ghosts K L} (g : CommitGraph K L kind) (h : List
 
 -- the tables of a represented history hold it in the file's order
 module _ {K L : Type 0} {kind : Ghosts K L} (start : ℕ → ℕ → L) (grown : L → L → L) (m : Model) (g : CommitGraph K L kind) (s : Represents start grown m g) where
-  id_listed : (i : ℕ) → i < g.count → (commit_of m.commits (get_or (listed g) i 0)).id ≡ (row_of g.rows.items.now (get_or g.order.items.now i 0)).id.bytes
+  id_listed : (i : ℕ) → i < g.count → (commit_of m.commits (get_or (listed g) i 0)).id ≡ (row_of g.rows.now (get_or g.order.now i 0)).id.bytes
   id_listed i lt =
-      ap (λ n. (commit_of m.commits n).id) (get_or-take g.count g.order.items.now i 0 lt)
-      ∙ ap (λ c. c.id) (represented_at start grown m g s (get_or g.order.items.now i 0) (g.within i lt))
+      ap (λ n. (commit_of m.commits n).id) (get_or-take g.count g.order.now i 0 lt)
+      ∙ ap (λ c. c.id) (represented_at start grown m g s (get_or g.order.now i 0) (g.within i lt))
 
   pub file_order : FileOrder m.commits (listed g)
   unfolding id_listed
@@ -48,24 +48,24 @@ module _ {K L : Type 0} {kind : Ghosts K L} (start : ℕ → ℕ → L) (grown :
       record {
         long = short ∙ sym long;
         held = λ i lt.
-            subst (λ n. n < length m.commits) (number_listed g i (get_or g.order.items.now i 0) (omega arith) refl) (omega (arith, g.within i (omega arith)));
+            subst (λ n. n < length m.commits) (number_listed g i (get_or g.order.now i 0) (omega arith) refl) (omega (arith, g.within i (omega arith)));
         rising = λ i j l lt.
             subst (λ x. precedes x (commit_of m.commits (get_or (listed g) j 0)).id ≡ true) (sym (id_listed i (omega arith)))
-            (subst (λ x. precedes (row_of g.rows.items.now (get_or g.order.items.now i 0)).id.bytes x ≡ true) (sym (id_listed j (omega arith))) (s.rising i j l (omega arith)));
+            (subst (λ x. precedes (row_of g.rows.now (get_or g.order.now i 0)).id.bytes x ≡ true) (sym (id_listed j (omega arith))) (s.rising i j l (omega arith)));
         complete = λ a lt.
             let q = s.complete a (omega arith) in
-            (q.0, omega (arith, q.1), sym (number_listed g q.0 (get_or g.order.items.now q.0 0) q.1 refl) ∙ q.2);
+            (q.0, omega (arith, q.1), sym (number_listed g q.0 (get_or g.order.now q.0 0) q.1 refl) ∙ q.2);
       }
 
   pub filed : Filed g m.commits (listed g)
   filed =
       record {
-        commits = s.commits;
+        commits = s.filled.commits;
         sorted = refl;
-        levels = s.levels;
+        levels = s.filled.levels;
         rising = s.rising;
         ordered = file_order;
-        wide = s.wellformed.wide;
+        wide = s.filled.wellformed.wide;
       }
 
 -- the reply says whether the file fits

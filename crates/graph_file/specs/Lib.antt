@@ -4,3 +4,4 @@ pub mod ParentWords
 pub mod Encoding
 pub mod Writing
 pub mod Placing
+pub mod Outputs

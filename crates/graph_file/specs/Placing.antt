@@ -1,5 +1,6 @@
 -- What the steps of writing say: bytes put into a buffer, and the tables that a file is written from. Assumes nothing.
 use Rattle.std.specs.Prelude.{◌≡◌, ℕ, ◌+◌, ◌*◌, ◌<◌, ◌≤◌, cond, List, [], ◌∷◌, map, length, take, nat_lt, slice_index, slice_index_or}
+use Rattle.std.specs.List.{All}
 use Rattle.std.proofs.Math.Seq.{paste}
 use Rattle.labels.specs.declared.kind.LabelKind.{Ghosts}
 use Rattle.history.specs.declared.graph.CommitGraph.{CommitGraph}
@@ -50,13 +51,21 @@ pub record Sized (l : Layout) (commits edges : ℕ) : Type 0 where
 module _ {K L : Type 0} {kind : Ghosts K L} (g : CommitGraph K L kind) where
   -- the commits' numbers in rising order of their ids
   abbrev pub listed : List ℕ
-  listed = take g.count g.order.items.now
+  listed = take g.count g.order.now
 
   -- the tables hold the history, in the file's order
   pub record Filed (h : List Commit) (order : List ℕ) : Type 0 where
     pub commits : history g ≡ h
     pub sorted : listed ≡ order
-    pub levels : map (λ r. r.level) (take g.count g.rows.items.now) ≡ levels_of h
-    pub rising : Rising g.rows.items.now g.order.items.now g.count
+    pub levels : map (λ r. r.level) (take g.count g.rows.now) ≡ levels_of h
+    pub rising : Rising g.rows.now g.order.now g.count
     pub ordered : FileOrder h order
     pub wide : (a : ℕ) → a < length h → (length (commit_of h a).id ≡ 20) × (length (commit_of h a).tree ≡ 20)
+
+  -- what holds of each history and order that the tables hold
+  abbrev pub WhenFiled : (List Commit → List ℕ → Type 0) → Type 0
+  WhenFiled P = (h : List Commit) (order : List ℕ) → Filed h order → P h order
+
+  -- each is the number of a commit
+  abbrev pub Held : List ℕ → Type 0
+  Held ns = All (λ n. n < g.count) ns

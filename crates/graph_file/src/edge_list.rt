@@ -1,53 +1,51 @@
 // EDGE: the parents from the second on, of the commits with more than two.
-ghost use Rattle.std.specs.Prelude.{◌≡◌, ℕ, ◌+◌, ◌*◌, ◌<◌, ◌≤◌, List, length, slice_index};
+ghost use Rattle.std.specs.Prelude.{◌*◌, length};
 ghost use Rattle.std.specs.List.{flat_map};
 ghost use Rattle.graph_file.specs.Encoding.{extra, closed, edges_from};
 ghost use Rattle.graph_file.specs.Layout.{edge_bytes};
-ghost use Rattle.graph_file.specs.Placing.{placed, Filed, extras, listed};
+ghost use Rattle.graph_file.specs.Outputs.{Moved, Puts, Room};
+ghost use Rattle.graph_file.specs.Placing.{WhenFiled, extras, listed, Held};
 ghost use Rattle.history.specs.Graph.{history};
-ghost use Rattle.history.specs.History.{Commit, parents_of};
+ghost use Rattle.history.specs.History.{parents_of};
 
-use crate::parent_words::edge_word;
-use crate::put::put_word;
-use crate::sizes::extra_edges;
+use crate::output::Output;
+use crate::parent_words::{last_word, position_of};
 use history::CommitGraph;
 use labels::LabelKind;
 
 // A list of parents, the last marked.
-fn put_closed<K: LabelKind>(graph: &CommitGraph<'_, K>, buffer: &mut [u8], at: usize, rest: &[u32])
-    requires held { (k : ℕ) → k < length rest.now → slice_index rest.now k < graph.now.count }
-    requires room { at + 4 * length rest.now ≤ length buffer.old }
-    ensures { (h : List Commit) (order : List ℕ) → Filed graph.now h order → buffer.new ≡ placed buffer.old at (edge_bytes (closed order rest.now)) }
+fn put_closed<K: LabelKind>(graph: &CommitGraph<'_, K>, output: &mut Output<'_>, rest: &[u32])
+    requires held { Held graph.now rest.now }
+    requires room { Room output.old (4 * length rest.now) }
+    ensures moved { Moved output.old output.new (4 * length rest.now) }
+    ensures puts { WhenFiled graph.now (λ h order. Puts output.old output.new (edge_bytes (closed order rest.now))) }
 {
-    for k in 0..rest.len() {
-        put_word(buffer, at + 4 * k, edge_word(graph, rest, k));
+    if let [others @ .., last] = rest {
+        for parent in others {
+            output.put_word(position_of(graph, *parent));
+        }
+        output.put_word(last_word(graph, *last));
     }
 }
 
 // The words of one commit.
-fn put_edges_of<K: LabelKind>(
-    graph: &CommitGraph<'_, K>,
-    buffer: &mut [u8],
-    at: usize,
-    parents: &[u32],
-)
-    requires held { (k : ℕ) → k < length parents.now → slice_index parents.now k < graph.now.count }
-    requires room { at + 4 * extra parents.now ≤ length buffer.old }
-    ensures { (h : List Commit) (order : List ℕ) → Filed graph.now h order → buffer.new ≡ placed buffer.old at (edge_bytes (edges_from order parents.now)) }
+fn put_edges_of<K: LabelKind>(graph: &CommitGraph<'_, K>, output: &mut Output<'_>, parents: &[u32])
+    requires held { Held graph.now parents.now }
+    requires room { Room output.old (4 * extra parents.now) }
+    ensures moved { Moved output.old output.new (4 * extra parents.now) }
+    ensures puts { WhenFiled graph.now (λ h order. Puts output.old output.new (edge_bytes (edges_from order parents.now))) }
 {
-    if 2 < parents.len() {
-        put_closed(graph, buffer, at, &parents[1..]);
+    if parents.len() > 2 {
+        put_closed(graph, output, &parents[1..]);
     }
 }
 
-pub(crate) fn put_edges<K: LabelKind>(graph: &CommitGraph<'_, K>, buffer: &mut [u8], at: usize)
-    requires { at + 4 * extras (history graph.now) (listed graph.now) ≤ length buffer.old }
-    ensures { (h : List Commit) (order : List ℕ) → Filed graph.now h order → buffer.new ≡ placed buffer.old at (edge_bytes (flat_map (λ n. edges_from order (parents_of h n)) order)) }
+pub(crate) fn put_edges<K: LabelKind>(graph: &CommitGraph<'_, K>, output: &mut Output<'_>)
+    requires { Room output.old (4 * extras (history graph.now) (listed graph.now)) }
+    ensures moved { Moved output.old output.new (4 * extras (history graph.now) (listed graph.now)) }
+    ensures puts { WhenFiled graph.now (λ h order. Puts output.old output.new (edge_bytes (flat_map (λ n. edges_from order (parents_of h n)) order))) }
 {
-    let mut here = at;
-    for place in 0..graph.held() {
-        let parents = graph.parents_at(graph.number_at(place) as usize);
-        put_edges_of(graph, buffer, here, parents);
-        here += 4 * extra_edges(parents);
+    for number in graph.by_id() {
+        put_edges_of(graph, output, graph.parents_at(*number as usize));
     }
 }

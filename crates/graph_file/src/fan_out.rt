@@ -1,45 +1,45 @@
 // OIDF: for each byte, how many ids begin with it or a lower one.
-ghost use Rattle.std.specs.Prelude.{◌≡◌, ℕ, ◌+◌, ◌<◌, ◌≤◌, List, length};
-ghost use Rattle.graph_file.specs.Layout.{fan_out, fan_out_bytes};
-ghost use Rattle.graph_file.specs.Placing.{placed, Filed, ids_of, first_at, Low};
-ghost use Rattle.history.specs.History.{Commit};
+ghost use Rattle.std.specs.Prelude.{◌≡◌, ◌<◌, ◌≤◌, length, slice_index, nat_le};
+ghost use Rattle.std.specs.List.{prefix_len};
+ghost use Rattle.graph_file.specs.Layout.{fan_out_bytes};
+ghost use Rattle.graph_file.specs.Outputs.{Moved, Puts, Room};
+ghost use Rattle.graph_file.specs.Placing.{WhenFiled, ids_of, Held};
+ghost use Rattle.history.specs.Tables.{row_of};
 
-use crate::put::put_word;
+use crate::output::Output;
 use history::CommitGraph;
 use labels::LabelKind;
 
-// The first byte of the id at a place.
-fn first_byte<K: LabelKind>(graph: &CommitGraph<'_, K>, place: usize) -> usize
-    requires { place < graph.now.count }
-    ensures { (h : List Commit) (order : List ℕ) → Filed graph.now h order → result ≡ first_at (ids_of h order) place }
+// The first byte of a commit's id.
+fn first_byte<K: LabelKind>(graph: &CommitGraph<'_, K>, number: u32) -> u8
+    requires { number < graph.now.count }
+    ensures { result ≡ slice_index (row_of graph.now.rows.now number).id.bytes 0 }
 {
-    let number = graph.number_at(place) as usize;
-    graph.row_at(number).id.bytes[0] as usize
+    graph.row_at(number as usize).id.bytes[0]
 }
 
-// How many ids begin with the byte or a lower one, where the first `from` do.
-fn ids_up_to<K: LabelKind>(graph: &CommitGraph<'_, K>, from: usize, byte: usize) -> usize
-    requires { from ≤ graph.now.count }
-    ensures within { result ≤ graph.now.count }
-    ensures counted { (h : List Commit) (order : List ℕ) → Filed graph.now h order → Low (ids_of h order) from byte → Low (ids_of h order) result byte × (result ≡ fan_out (ids_of h order) byte) }
+// How many of the commits in front have ids that begin with the byte or a lower one.
+fn count_up_to<K: LabelKind>(graph: &CommitGraph<'_, K>, numbers: &[u32], byte: u8) -> usize
+    requires { Held graph.now numbers.now }
+    ensures within { result ≤ length numbers.now }
+    ensures counted { result ≡ prefix_len (λ n. nat_le (slice_index (row_of graph.now.rows.now n).id.bytes 0) byte) numbers.now }
 {
-    let mut count = from;
-    while count < graph.held() {
-        if byte < first_byte(graph, count) {
-            return count;
-        }
-        count += 1;
-    }
-    count
+    numbers
+        .iter()
+        .take_while(|n| first_byte(graph, **n) <= byte)
+        .count()
 }
 
-pub(crate) fn put_fan_out<K: LabelKind>(graph: &CommitGraph<'_, K>, buffer: &mut [u8], at: usize)
-    requires { at + 1024 ≤ length buffer.old }
-    ensures { (h : List Commit) (order : List ℕ) → Filed graph.now h order → buffer.new ≡ placed buffer.old at (fan_out_bytes (ids_of h order)) }
+pub(crate) fn put_fan_out<K: LabelKind>(graph: &CommitGraph<'_, K>, output: &mut Output<'_>)
+    requires { Room output.old 1024 }
+    ensures moved { Moved output.old output.new 1024 }
+    ensures puts { WhenFiled graph.now (λ h order. Puts output.old output.new (fan_out_bytes (ids_of h order))) }
 {
+    let numbers = graph.by_id();
     let mut count = 0;
-    for byte in 0..256 {
-        count = ids_up_to(graph, count, byte);
-        put_word(buffer, at + 4 * byte, count);
+    // a word for each byte: the count goes on where the last one stopped
+    for byte in 0..=u8::MAX {
+        count += count_up_to(graph, &numbers[count..], byte);
+        output.put_word(count as u32);
     }
 }

@@ -1,20 +1,20 @@
 // OIDL: the ids, in rising order.
-ghost use Rattle.std.specs.Prelude.{◌≡◌, ℕ, ◌+◌, ◌*◌, ◌≤◌, List, length};
+ghost use Rattle.std.specs.Prelude.{◌*◌};
 ghost use Rattle.graph_file.specs.Layout.{id_bytes};
-ghost use Rattle.graph_file.specs.Placing.{placed, Filed, ids_of};
-ghost use Rattle.history.specs.History.{Commit};
+ghost use Rattle.graph_file.specs.Outputs.{Moved, Puts, Room};
+ghost use Rattle.graph_file.specs.Placing.{WhenFiled, ids_of};
 
-use crate::put::put_bytes;
+use crate::output::Output;
 use history::CommitGraph;
 use labels::LabelKind;
 
-pub(crate) fn put_ids<K: LabelKind>(graph: &CommitGraph<'_, K>, buffer: &mut [u8], at: usize)
-    requires { at + 20 * graph.now.count ≤ length buffer.old }
-    ensures { (h : List Commit) (order : List ℕ) → Filed graph.now h order → buffer.new ≡ placed buffer.old at (id_bytes (ids_of h order)) }
+pub(crate) fn put_ids<K: LabelKind>(graph: &CommitGraph<'_, K>, output: &mut Output<'_>)
+    requires { Room output.old (20 * graph.now.count) }
+    ensures moved { Moved output.old output.new (20 * graph.now.count) }
+    ensures puts { WhenFiled graph.now (λ h order. Puts output.old output.new (id_bytes (ids_of h order))) }
 {
-    for place in 0..graph.held() {
-        let number = graph.number_at(place) as usize;
-        let id = graph.row_at(number).id;
-        put_bytes(buffer, at + 20 * place, &id.bytes);
+    for number in graph.by_id() {
+        let id = graph.row_at(*number as usize).id;
+        output.put_bytes(&id.bytes);
     }
 }

@@ -1,35 +1,37 @@
 // The words by which a file names parents.
-ghost use Rattle.std.specs.Prelude.{◌≡◌, ℕ, ◌+◌, ◌<◌, ◌≤◌, List, length, if◌then◌else◌, nat_lt, slice_index};
-ghost use Rattle.graph_file.specs.Encoding.{position, first_word, second_word, closed};
-ghost use Rattle.graph_file.specs.Placing.{Filed};
-ghost use Rattle.history.specs.History.{Commit};
+ghost use Rattle.std.specs.Prelude.{◌≡◌, ◌+◌, ◌%◌, ◌<◌, ◌≤◌};
+ghost use Rattle.graph_file.specs.Encoding.{position, first_word, second_word};
+ghost use Rattle.graph_file.specs.ParentWords.{mark};
+ghost use Rattle.graph_file.specs.Placing.{WhenFiled, Held};
 
+use crate::output::low_word;
 use history::CommitGraph;
 use labels::LabelKind;
 
-const NO_PARENT: usize = 0x7000_0000;
+// Stands in the place of a parent that there is not.
+pub const NO_PARENT: u32 = 0x7000_0000;
 
-// marks the last word of a list in EDGE, and a second parent word that points into EDGE
-const MARK: usize = 0x8000_0000;
+// Marks the last word of a list in EDGE, and a second parent word that points into EDGE.
+pub const MARK: u32 = 0x8000_0000;
 
-// The file position of a commit.
-fn position_of<K: LabelKind>(graph: &CommitGraph<'_, K>, number: usize) -> usize
+// The file position of a commit. Numbers are taken bare, each with its bound: they come from lists of plain numbers.
+pub(crate) fn position_of<K: LabelKind>(graph: &CommitGraph<'_, K>, number: u32) -> u32
     requires { number < graph.now.count }
     ensures within { result ≤ 65536 }
-    ensures value { (h : List Commit) (order : List ℕ) → Filed graph.now h order → result ≡ position order number }
+    ensures value { WhenFiled graph.now (λ h order. result ≡ position order number) }
 {
-    graph.place(graph.row_at(number).id)
+    graph.place(graph.row_at(number as usize).id) as u32
 }
 
 // The first parent word of a commit.
-pub(crate) fn first_word<K: LabelKind>(graph: &CommitGraph<'_, K>, parents: &[u32]) -> usize
-    requires { (k : ℕ) → k < length parents.now → slice_index parents.now k < graph.now.count }
-    ensures { (h : List Commit) (order : List ℕ) → Filed graph.now h order → result ≡ first_word order parents.now }
+pub(crate) fn first_word<K: LabelKind>(graph: &CommitGraph<'_, K>, parents: &[u32]) -> u32
+    requires { Held graph.now parents.now }
+    ensures { WhenFiled graph.now (λ h order. result ≡ first_word order parents.now) }
 {
-    if parents.is_empty() {
-        return NO_PARENT;
+    match parents {
+        [] => NO_PARENT,
+        [first, ..] => position_of(graph, *first),
     }
-    position_of(graph, parents[0] as usize)
 }
 
 // The second parent word of a commit whose words in EDGE begin at `start`.
@@ -37,33 +39,22 @@ pub(crate) fn second_word<K: LabelKind>(
     graph: &CommitGraph<'_, K>,
     parents: &[u32],
     start: usize,
-) -> usize
-    requires held { (k : ℕ) → k < length parents.now → slice_index parents.now k < graph.now.count }
+) -> u32
+    requires held { Held graph.now parents.now }
     requires small { start ≤ 17179869184 }
-    ensures { (h : List Commit) (order : List ℕ) → Filed graph.now h order → result ≡ second_word order start parents.now }
+    ensures { WhenFiled graph.now (λ h order. result ≡ second_word order start parents.now % 4294967296) }
 {
-    if parents.len() < 2 {
-        return NO_PARENT;
+    match parents {
+        [] | [_] => NO_PARENT,
+        [_, second] => position_of(graph, *second),
+        _ => low_word(MARK as u64 + start as u64),
     }
-    if parents.len() > 2 {
-        return MARK + start;
-    }
-    position_of(graph, parents[1] as usize)
 }
 
-// What the word at k of a list of so many in EDGE adds to the position.
-fn edge_mark(k: usize, size: usize) -> usize
-    requires { k < size }
-    ensures { result ≡ (if nat_lt (k + 1) size then 0 else 2147483648) }
+// The last word of a list in EDGE.
+pub(crate) fn last_word<K: LabelKind>(graph: &CommitGraph<'_, K>, number: u32) -> u32
+    requires { number < graph.now.count }
+    ensures { WhenFiled graph.now (λ h order. result ≡ mark + position order number) }
 {
-    if k + 1 < size { 0 } else { MARK }
-}
-
-// A word of EDGE, for the parent at k of those from the second on.
-pub(crate) fn edge_word<K: LabelKind>(graph: &CommitGraph<'_, K>, rest: &[u32], k: usize) -> usize
-    requires held { slice_index rest.now k < graph.now.count }
-    requires within { k < length rest.now }
-    ensures { (h : List Commit) (order : List ℕ) → Filed graph.now h order → result ≡ slice_index (closed order rest.now) k }
-{
-    edge_mark(k, rest.len()) + position_of(graph, rest[k] as usize)
+    MARK + position_of(graph, number)
 }

@@ -1,7 +1,9 @@
 -- The file of a history is never refused. Assumes nothing.
-use Rattle.std.proofs.Common.{◌≡◌, ℕ, ◌≤◌, List, map, length, None, Ok, ap, ◌∙◌, ap₂}
+use Rattle.std.proofs.Common.{◌≡◌, ℕ, ◌≤◌, List, map, length, None, Ok, sym, ap, ◌∙◌, ap₂}
 use Rattle.std.specs.Option.{option_map}
 use Rattle.std.proofs.lemmas.List.{length-map}
+use Rattle.history.specs.declared.load_fault.HistoryFault.TheVariants.{WrongLevel}
+use Rattle.history.specs.declared.load_fault.LoadFault.TheVariants.{History}
 use Rattle.history.specs.History.{Commit, commit_of, parent_total, Wellformed}
 use Rattle.graph_file.specs.Encoding.{FileOrder, layout_of}
 use Rattle.graph_file.specs.Layout.{file_bytes}
@@ -11,7 +13,7 @@ use Rattle.graph_reader.specs.Faults.{first_failing}
 use Rattle.graph_reader.specs.Levels.{levels_in, level_tests}
 use Rattle.graph_reader.specs.Parents.{parents_from}
 use Rattle.graph_reader.specs.Verdict.{failed_at, listed_in, total_of, parents_read, parents_in, level_fault, file_fault}
-use Rattle.graph_reader.proofs.Layers.{wrong_level}
+use Rattle.graph_reader.proofs.Layers.{no_chunk_fault, wrong_level}
 use Rattle.graph_reader.proofs.LevelsRead.{levels_pass}
 use Rattle.graph_reader.proofs.ParentsRead.{named_parents, parents_read_back}
 use Rattle.graph_reader.proofs.PlainFiles.{plain}
@@ -47,5 +49,6 @@ module _ (h : List Commit) (order : List ℕ) (w : Wellformed h) (s : FileOrder 
     accepted =
         let l = layout_of h order in
         let fits = plain h order w s few all in
-        wrong_level (file_bytes l) (container_back l fits) (fan_out_back l fits) (order_back l fits (ids_rising h order s)) (ap failed_at accepted_parents)
-        ∙ ap (option_map _) (levels_as (file_bytes l) accepted_count (layout_back l fits))
+        sym (wrong_level (file_bytes l) (sym (container_back l fits))
+        (no_chunk_fault (file_bytes l) (fan_out_back l fits) (order_back l fits (ids_rising h order s)) (ap failed_at accepted_parents)))
+        ∙ ap (λ o. option_map History (option_map WrongLevel o)) (levels_as (file_bytes l) accepted_count (layout_back l fits))

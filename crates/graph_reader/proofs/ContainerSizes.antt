@@ -1,12 +1,12 @@
 -- What a container without fault says of its sizes. Assumes nothing.
-use Rattle.std.proofs.Common.{◌≡◌, ℕ, ◌+◌, ◌-◌, ◌*◌, ◌/◌, ◌%◌, ◌<◌, ◌≤◌, true, false, ◌&&◌, eqb, ltb, leb, ◌⊎◌, List, ◌++◌, length, get_or, None, sym, refl, ap, ◌∙◌, subst, inl, inr, ⊎_elim, le_of_eq, arith}
+use Rattle.std.proofs.Common.{◌≡◌, ℕ, ◌+◌, ◌-◌, ◌*◌, ◌/◌, ◌%◌, ◌<◌, ◌≤◌, true, false, ◌&&◌, eqb, ltb, leb, ◌⊎◌, List, length, get_or, None, sym, refl, ap, ◌∙◌, subst, inl, inr, ⊎_elim, le_of_eq, arith}
 use Rattle.std.specs.List.{between}
 use Rattle.std.proofs.lemmas.List.Edits.{length-between}
 use Rattle.std.proofs.lemmas.Bool.{eq-eqb, ne_eqb, cond-true, cond-false, and_parts, or_cases, leb-true, ltb-false, eqb-true}
 use Rattle.history.specs.declared.load_fault.ContainerFault.TheVariants.{TooShort, WrongHeader, WrongContents}
 use Rattle.graph_reader.specs.Bytes.{long_at, chunks_begin, ids_begin, told_count, data_begin, data_end, told_edges, fan_out_chunk, id_chunk, data_chunk, edge_chunk}
 use Rattle.graph_reader.specs.Faults.{first_failing, stepped_by, header_tests, contents_tests, three_tests, four_tests, end_tests, container_fault}
-use Rattle.graph_reader.proofs.Faulting.{no_test, both_none, each_passes}
+use Rattle.graph_reader.proofs.Faulting.{no_test, each_passes}
 use Rattle.graph_reader.proofs.Options.{either_none, mapped_none, cond_none}
 
 -- a distance that is a whole number of steps
@@ -55,19 +55,16 @@ pub few_told : (bytes : List ℕ) → first_failing (contents_tests bytes) ≡ N
 few_told bytes e = (data_steps bytes e).few
 
 module _ (bytes : List ℕ) (fine : container_fault bytes ≡ None) where
-  layers : (ltb (length bytes) 1080 ≡ false) × (first_failing (header_tests bytes) ≡ None) × (first_failing (contents_tests bytes ++ end_tests bytes) ≡ None)
+  layers : (ltb (length bytes) 1080 ≡ false) × (first_failing (header_tests bytes) ≡ None) × (first_failing (contents_tests bytes) ≡ None) × (first_failing (end_tests bytes) ≡ None)
   layers =
       let a = cond_none (ltb (length bytes) 1080) (TooShort (length bytes)) _ fine in
       let b = either_none WrongHeader (first_failing (header_tests bytes)) _ a.1 in
-      (a.0, b.0, mapped_none WrongContents _ b.1)
+      let c = either_none WrongContents (first_failing (contents_tests bytes)) _ b.1 in
+      (a.0, b.0, c.0, mapped_none WrongContents _ c.1)
 
   pub long_enough : 1080 ≤ length bytes
   unfolding layers
   long_enough = ltb-false (length bytes) 1080 layers.0
-
-  table_none : (first_failing (contents_tests bytes) ≡ None) × (first_failing (end_tests bytes) ≡ None)
-  unfolding layers
-  table_none = both_none (contents_tests bytes) (end_tests bytes) layers.2
 
   -- each of the tests passes
   pub header_passes : (i : ℕ) → i < 8 → (get_or (header_tests bytes) i no_test).passed ≡ true
@@ -75,18 +72,18 @@ module _ (bytes : List ℕ) (fine : container_fault bytes ≡ None) where
   header_passes i lt = each_passes (header_tests bytes) layers.1 i no_test lt
 
   pub contents_pass : (i : ℕ) → i < 6 → (get_or (contents_tests bytes) i no_test).passed ≡ true
-  unfolding table_none
-  contents_pass i lt = each_passes (contents_tests bytes) table_none.0 i no_test lt
+  unfolding layers
+  contents_pass i lt = each_passes (contents_tests bytes) layers.2 i no_test lt
 
   pub three_pass : get_or bytes 6 0 ≡ 3 → (i : ℕ) → i < 3 → (get_or (three_tests bytes) i no_test).passed ≡ true
-  unfolding table_none
+  unfolding layers
   three_pass is i lt =
-      each_passes (three_tests bytes) (ap first_failing (sym (cond-true (eqb (get_or bytes 6 0) 3) (three_tests bytes) (four_tests bytes) (eq-eqb _ _ is))) ∙ table_none.1) i no_test lt
+      each_passes (three_tests bytes) (ap first_failing (sym (cond-true (eqb (get_or bytes 6 0) 3) (three_tests bytes) (four_tests bytes) (eq-eqb _ _ is))) ∙ layers.3) i no_test lt
 
   pub four_pass : get_or bytes 6 0 ≡ 4 → (i : ℕ) → i < 5 → (get_or (four_tests bytes) i no_test).passed ≡ true
-  unfolding table_none
+  unfolding layers
   four_pass is i lt =
-      each_passes (four_tests bytes) (ap first_failing (sym (cond-false (eqb (get_or bytes 6 0) 3) (three_tests bytes) (four_tests bytes) (ne_eqb _ _ (λ e. omega arith)))) ∙ table_none.1) i no_test lt
+      each_passes (four_tests bytes) (ap first_failing (sym (cond-false (eqb (get_or bytes 6 0) 3) (three_tests bytes) (four_tests bytes) (ne_eqb _ _ (λ e. omega arith)))) ∙ layers.3) i no_test lt
 
   -- three or four chunks
   pub chunks_told : (get_or bytes 6 0 ≡ 3) ⊎ (get_or bytes 6 0 ≡ 4)
@@ -97,12 +94,12 @@ module _ (bytes : List ℕ) (fine : container_fault bytes ≡ None) where
       (or_cases (eqb (get_or bytes 6 0) 3) (eqb (get_or bytes 6 0) 4) (header_passes 6 (omega arith)))
 
   pub few_commits : told_count bytes ≤ 65536
-  unfolding table_none
-  few_commits = few_told bytes table_none.0
+  unfolding layers
+  few_commits = few_told bytes layers.2
 
   pub data_told : long_at bytes 36 ≡ data_begin bytes
-  unfolding table_none
-  data_told = sym (twenty_steps 0 65536 (ids_begin bytes) (long_at bytes 36) (data_steps bytes table_none.0))
+  unfolding layers
+  data_told = sym (twenty_steps 0 65536 (ids_begin bytes) (long_at bytes 36) (data_steps bytes layers.2))
 
   module _ (three : get_or bytes 6 0 ≡ 3) where
     pub no_edges : told_edges bytes ≡ 0

@@ -1,11 +1,10 @@
 -- The first test that fails, over tests one after the other. Assumes nothing.
-use Rattle.std.proofs.Common.{◌≡◌, ℕ, zero, suc, ◌+◌, ◌<◌, ◌≤◌, true, false, cond, List, [], ◌∷◌, ◌++◌, map, length, get_or, drop, Some, None, sym, refl, ap, ◌∙◌, ⊎_elim, arith}
+use Rattle.std.proofs.Common.{◌≡◌, ℕ, zero, suc, ◌+◌, ◌<◌, ◌≤◌, true, false, cond, List, [], ◌∷◌, map, length, get_or, drop, Some, None, sym, ap, ◌∙◌, ⊎_elim, arith}
 use Rattle.std.specs.List.{range_with_len}
 use Rattle.std.proofs.lemmas.List.FromFn.{length-map-range_with_len, get_or-map-range_with_len}
 use Rattle.std.proofs.lemmas.List.{at_drop_more, at_drop_all}
 use Rattle.std.proofs.lemmas.Bool.{cases_Bool, cond-true, cond-false}
-use Rattle.graph_reader.specs.declared.test.Test.{Test}
-use Rattle.graph_reader.specs.Faults.{first_failing}
+use Rattle.graph_reader.specs.Faults.{Test, first_failing}
 use Rattle.graph_reader.proofs.Options.{never_none}
 
 -- a test where there is none
@@ -14,14 +13,6 @@ no_test = record { place = 0; passed = false }
 
 failed_not_none : {A : Type 0} (t : Test) (ts : List Test) → t.passed ≡ false → first_failing (t ∷ ts) ≡ None → A
 failed_not_none t ts f e = never_none t.place (sym (cond-false t.passed (first_failing ts) (Some t.place) f) ∙ e)
-
-pub both_none : (ts us : List Test) → first_failing (ts ++ us) ≡ None → (first_failing ts ≡ None) × (first_failing us ≡ None)
-both_none [] us e = (refl, e)
-both_none (t ∷ ts) us e =
-    ⊎_elim
-    (λ p. let both = both_none ts us (sym (cond-true t.passed _ _ p) ∙ e) in (cond-true t.passed _ _ p ∙ both.0, both.1))
-    (λ f. failed_not_none t (ts ++ us) f e)
-    (cases_Bool t.passed)
 
 pub each_passes : (ts : List Test) → first_failing ts ≡ None → (i : ℕ) (d : Test) → i < length ts → (get_or ts i d).passed ≡ true
 each_passes [] e i d lt = absurd (omega arith)

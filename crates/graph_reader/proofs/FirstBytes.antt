@@ -1,20 +1,24 @@
 -- Counts by first byte, and their sums. Assumes nothing.
-use Rattle.std.proofs.Common.{◌≡◌, ℕ, ◌+◌, ◌-◌, ◌*◌, ◌<◌, ◌≤◌, cond, eqb, leb, List, [], ◌∷◌, ◌++◌, length, get_or, drop, set, replicate, sym, refl, ap, ◌∙◌, subst, ⊎_elim, arith}
-use Rattle.std.proofs.lemmas.List.{get_or-take, get_or-drop, length-set, get_or-set_same, get_or-set_other, get_or-replicate, get_or_past, length-replicate}
+use Rattle.std.proofs.Common.{◌≡◌, ℕ, zero, suc, ◌+◌, ◌-◌, ◌*◌, ◌<◌, ◌≤◌, cond, eqb, leb, List, [], ◌∷◌, ◌++◌, map, length, get_or, take, drop, set, replicate, sym, refl, ap, ◌∙◌, subst, ⊎_elim, arith}
+use Rattle.std.proofs.lemmas.List.{drop-drop, take_more, length-set, get_or-set_same, get_or-set_other, get_or-replicate, get_or_past, length-replicate}
 use Rattle.std.proofs.lemmas.Bool.Decides.{nat_tests}
-use Rattle.std.proofs.lemmas.List.FromFn.{map-range_with_len_more}
+use Rattle.std.specs.List.{range_with_len}
+use Rattle.std.specs.Simd.{first_chunks}
 use Rattle.std.proofs.lemmas.Bool.{cases_eq, cases_lt, cond-true, cond-false, eq-eqb, ne_eqb}
 use Rattle.graph_reader.specs.ChunkFaults.{begun_by}
-use Rattle.graph_reader.specs.Bytes.{id_at, ids_in}
+use Rattle.graph_reader.specs.Bytes.{id_at}
 use Rattle.graph_file.specs.Layout.{fan_out}
+
+-- the ids of a chunk, 20 bytes each
+pub chunks_from : (chunk : List ℕ) (a n : ℕ) → first_chunks 20 n (drop (20 * a) chunk) ≡ map (id_at chunk) (range_with_len a n)
+chunks_from chunk a zero = refl
+chunks_from chunk a (suc n) =
+    ap (λ xs. id_at chunk a ∷ xs)
+    (ap (first_chunks 20 n) (drop-drop 20 (20 * a) chunk ∙ ap (λ k. drop k chunk) (let z : 20 * a + 20 ≡ 20 * (a + 1) = omega arith in z)) ∙ chunks_from chunk (a + 1) n)
 
 pub begun_push : (ids : List (List ℕ)) (id : List ℕ) (i : ℕ) → begun_by (ids ++ (id ∷ [])) i ≡ begun_by ids i + cond (eqb (get_or id 0 0) i) 1 0
 begun_push [] id i = omega arith
 begun_push (x ∷ ids) id i = omega (arith, begun_push ids id i)
-
-pub first_byte : (chunk : List ℕ) (p : ℕ) → get_or (id_at chunk p) 0 0 ≡ get_or chunk (20 * p) 0
-first_byte chunk p =
-    get_or-take 20 (drop (20 * p) chunk) 0 0 (omega arith) ∙ get_or-drop (20 * p) chunk 0 0 ∙ ap (λ n. get_or chunk n 0) (let e : 20 * p + 0 ≡ 20 * p = omega arith in e)
 
 one_step : (f i : ℕ) → cond (leb f (i + 1)) 1 0 ≡ cond (leb f i) 1 0 + cond (eqb f (i + 1)) 1 0
 one_step f i = grind (arith, nat_tests)
@@ -32,13 +36,13 @@ fan_out_first [] = refl
 fan_out_first (id ∷ ids) = omega (arith, fan_out_first ids, zero_step (get_or id 0 0))
 
 -- one id more is counted
-module _ (chunk counts : List ℕ) (p : ℕ) (long : length counts ≡ 256) (first : ℕ) (is : get_or chunk (20 * p) 0 ≡ first) (low : first < 256)
-    (counted : (i : ℕ) → i < 256 → get_or counts i 0 ≡ begun_by (ids_in chunk p) i) where
-  pub tally_more : (i : ℕ) → i < 256 → get_or (set counts first (get_or counts first 0 + 1)) i 0 ≡ begun_by (ids_in chunk (p + 1)) i
+module _ (ids : List (List ℕ)) (counts : List ℕ) (p : ℕ) (held : p < length ids) (long : length counts ≡ 256) (first : ℕ) (is : get_or (get_or ids p []) 0 0 ≡ first) (low : first < 256)
+    (counted : (i : ℕ) → i < 256 → get_or counts i 0 ≡ begun_by (take p ids) i) where
+  pub tally_more : (i : ℕ) → i < 256 → get_or (set counts first (get_or counts first 0 + 1)) i 0 ≡ begun_by (take (p + 1) ids) i
   tally_more i lt =
-      let next : begun_by (ids_in chunk (p + 1)) i ≡ begun_by (ids_in chunk p) i + cond (eqb first i) 1 0 =
-      ap (λ l. begun_by l i) (map-range_with_len_more (id_at chunk) 0 p p (omega arith)) ∙ begun_push (ids_in chunk p) (id_at chunk p) i
-      ∙ ap (λ f. begun_by (ids_in chunk p) i + cond (eqb f i) 1 0) (first_byte chunk p ∙ is) in
+      let next : begun_by (take (p + 1) ids) i ≡ begun_by (take p ids) i + cond (eqb first i) 1 0 =
+      ap (λ l. begun_by l i) (take_more ids p [] held) ∙ begun_push (take p ids) (get_or ids p []) i
+      ∙ ap (λ f. begun_by (take p ids) i + cond (eqb f i) 1 0) is in
       ⊎_elim
       (λ e.
       let one : ◌≡◌ {A = ℕ} (cond (eqb first i) 1 0) 1 = cond-true _ _ _ (eq-eqb first i (sym e)) in

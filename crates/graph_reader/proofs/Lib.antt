@@ -27,3 +27,4 @@ pub mod ParentAgain
 pub mod PartsHeld
 pub mod LevelSteps
 pub mod Layers
+pub mod Sources

@@ -3,15 +3,25 @@ use Rattle.std.proofs.Common.{◌≡◌, ℕ, zero, suc, ◌+◌, ◌-◌, ◌<�
 use Rattle.std.proofs.lemmas.Bool.{cases_Bool, cases_eq, cond-true, cond-false, ne_eqb, and_left}
 use Rattle.graph_file.specs.Encoding.{extra}
 use Rattle.graph_file.specs.ParentWords.{no_parent, mark}
-use Rattle.graph_reader.specs.declared.parts.GraphFile.{GraphFile}
+use Rattle.graph_reader.specs.declared.parts.Parts.{Parts}
+use Rattle.std.specs.Result.{ResultUnwrapsOrElse}
+use Rattle.arrayvec.specs.ArrayVec.{ArrayVec}
+use Rattle.history.specs.declared.load_fault.ChunkFault.{ChunkFault}
+use Rattle.graph_reader.specs.Holding.{listed}
 use Rattle.graph_reader.specs.Parents.{led_by, others_of, parents_by}
-use Rattle.graph_reader.specs.PartParents.{part_row, part_rows, part_words, parents_at, parents_of_all}
+use Rattle.graph_reader.specs.PartParents.{as_read, as_fault, part_row, part_rows, part_words, parents_at, parents_of_all}
 use Rattle.graph_reader.specs.Verdict.{failed_at, listed_in}
 use Rattle.graph_reader.proofs.ParentCodes.{Held, parents_named}
 use Rattle.graph_reader.proofs.ParentPass.{read_whole, parents_onward, onward_ok, onward_err}
 
 pub never_ok : {X : Type 0} {A : Type 0} (place : ℕ) (x : X) → ◌≡◌ {A = Result X ℕ} (Err place) (Ok x) → A
 never_ok place x e = let z : ◌≡◌ {A = ℕ} 0 1 = cc e in absurd (omega arith)
+
+-- what was read of a right commit, or else a default, is its parents
+pub unwrapped : (P : ArrayVec ℕ → Type 0) (r : Result (ArrayVec ℕ) ChunkFault) (v : ArrayVec ℕ) (read : Result (List ℕ) ℕ) (ps : List ℕ) →
+    ResultUnwrapsOrElse r P v → as_read r ≡ as_fault read → read ≡ Ok ps → listed v ≡ ps
+unwrapped P (Ok l) v read ps u e is = ap listed u ∙ (let z : ◌≡◌ {A = Result (List ℕ) ChunkFault} (Ok (listed l)) (Ok ps) = e ∙ ap as_fault is in cc)
+unwrapped P (Err fault) v read ps u e is = let z : ◌≡◌ {A = Result (List ℕ) ChunkFault} (Err fault) (Ok ps) = e ∙ ap as_fault is in let y : ◌≡◌ {A = ℕ} 0 1 = cc in absurd (omega arith)
 
 result_cases : {X : Type 0} (r : Result X ℕ) → ((x : X) × (r ≡ Ok x)) ⊎ ((place : ℕ) × (r ≡ Err place))
 result_cases (Ok x) = inl (x, refl)
@@ -50,7 +60,7 @@ module _ (count cdat edge p first second : ℕ) (n m : ℕ) (us vs : List ℕ) (
       (cases_Bool (ltb first count)))
       (cases_Bool (eqb first no_parent))
 
-module _ (f : GraphFile) where
+module _ (f : Parts) where
   -- the words of a commit begin where its second parent word says
   from_start : (p next : ℕ) (ps : List ℕ) → parents_at f p next ≡ Ok ps → parents_at f p ((part_row f p).second - mark) ≡ Ok ps
   from_start p next ps e =

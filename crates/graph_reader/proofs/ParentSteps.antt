@@ -5,7 +5,7 @@ use Rattle.std.proofs.lemmas.List.{at_drop_more, at_drop_all}
 use Rattle.std.proofs.lemmas.Bool.{cond-true, cond-false, lt-ltb, le-ltb, le-leb, lt-leb, ne_eqb, eq-eqb, and_from, and_left, and_right}
 use Rattle.graph_file.specs.Layout.{has_edges}
 use Rattle.graph_file.specs.ParentWords.{no_parent, mark}
-use Rattle.graph_reader.specs.declared.parts.GraphFile.{GraphFile}
+use Rattle.graph_reader.specs.declared.parts.Parts.{Parts}
 use Rattle.graph_reader.specs.Bytes.{word_in}
 use Rattle.graph_reader.specs.Parents.{led_by, listed_from, others_of}
 use Rattle.graph_reader.specs.PartParents.{behind, part_row, part_words, list_at, others_at}
@@ -15,11 +15,11 @@ pub behind_led : (xs : List ℕ) (w : ℕ) (r : Result (List ℕ) ℕ) → behin
 behind_led xs w (Ok ys) = ap Ok (sym (append_assoc xs (w ∷ []) ys))
 behind_led xs w (Err place) = refl
 
-pub length_words : (f : GraphFile) → length (part_words f) ≡ f.entries
+pub length_words : (f : Parts) → length (part_words f) ≡ f.entries
 length_words f = length-map-range_with_len (word_in f.edges.bytes.now) 0 f.entries
 
 -- a list of EDGE, of which k words came before the one with the index `at`
-module _ (f : GraphFile) (xs : List ℕ) (at k : ℕ) where
+module _ (f : Parts) (xs : List ℕ) (at k : ℕ) where
   abbrev from_words : ℕ → ℕ → List ℕ → Result (List ℕ) ℕ
   from_words = listed_from f.count f.rows.place f.edges.place
 
@@ -63,7 +63,7 @@ module _ (f : GraphFile) (xs : List ℕ) (at k : ℕ) where
     list_wrong ge fails = ap (behind xs) (at_word ∙ cond-false _ _ _ (le-ltb w f.count ge) ∙ cond-false _ _ _ fails)
 
 -- the second parent word, where it names no parent itself
-module _ (f : GraphFile) (p next second : ℕ) (is : second ≡ (part_row f p).second) (named : second ≡ no_parent → ⊥) (ge : f.count ≤ second) where
+module _ (f : Parts) (p next second : ℕ) (is : second ≡ (part_row f p).second) (named : second ≡ no_parent → ⊥) (ge : f.count ≤ second) where
   abbrev points : Bool
   points = eqb second (mark + next) && has_edges (drop next (part_words f))
 

@@ -1,10 +1,9 @@
 -- The front of a file, read back. Assumes nothing.
-use Rattle.std.proofs.Common.{◌≡◌, ℕ, ◌+◌, ◌-◌, ◌*◌, ◌/◌, ◌%◌, ◌≤◌, Bool, true, false, cond, ◌&&◌, eqb, ltb, leb, ◌⊎◌, List, [], ◌++◌, length, Some, None, sym, refl, ap, ◌∙◌, ap₂, ⊎_elim, arith}
+use Rattle.std.proofs.Common.{◌≡◌, ℕ, ◌+◌, ◌-◌, ◌*◌, ◌/◌, ◌%◌, ◌≤◌, Bool, true, false, cond, ◌&&◌, eqb, ltb, leb, ◌⊎◌, List, [], length, Some, None, sym, refl, ap, ◌∙◌, ap₂, ⊎_elim, arith}
 use Rattle.std.specs.Option.{option_map}
 use Rattle.std.proofs.lemmas.Bool.{lt-ltb, cond-true, cond-false, and_from, le-leb, eq-eqb, le-ltb}
 use Rattle.graph_file.proofs.Fronts.{front}
 use Rattle.history.specs.declared.load_fault.ContainerFault.TheVariants.{WrongHeader, WrongContents}
-use Rattle.graph_reader.specs.declared.test.Test.{Test}
 use Rattle.graph_reader.specs.Bytes.{long_at, data_end, told_count, told_edges}
 use Rattle.graph_reader.specs.Faults.{first_failing, either, stepped_by, header_tests, contents_tests, end_tests, container_fault}
 use Rattle.graph_reader.proofs.FileFronts.{fronted}
@@ -55,12 +54,12 @@ module _ (b : Bool) (n e : ℕ) (rest : List ℕ) (few : n ≤ 65536) where
   end_back = ap (λ k. begin + 1024 + 56 * k) count_back
 
 -- the tests of the table up to the place of CDAT pass
-table_passes : (b : Bool) (n e : ℕ) (rest : List ℕ) (us : List Test) → n ≤ 65536 → first_failing (contents_tests (fronted b n e rest) ++ us) ≡ first_failing us
+table_passes : (b : Bool) (n e : ℕ) (rest : List ℕ) → n ≤ 65536 → first_failing (contents_tests (fronted b n e rest)) ≡ None
 unfolding data_place twenty_apart
-table_passes true n e rest us few =
+table_passes true n e rest few =
     let to = long_at (fronted true n e rest) 36 in
     cond-true (stepped_by 20 0 65536 1092 to) _ _ (twenty_apart 65536 1092 to n (data_place true n e rest few) few)
-table_passes false n e rest us few =
+table_passes false n e rest few =
     let to = long_at (fronted false n e rest) 36 in
     cond-true (stepped_by 20 0 65536 1080 to) _ _ (twenty_apart 65536 1080 to n (data_place false n e rest few) few)
 
@@ -96,7 +95,8 @@ module _ (n e : ℕ) (rest : List ℕ) (few : n ≤ 65536) (long : length rest �
   no_fault b headed ended =
       let bytes = fronted b n e rest in
       cond-false (ltb (length bytes) 1080) _ _ (le-ltb (length bytes) 1080 (omega (arith, (begin_within b).0, length_fronted b n e rest)))
-      ∙ ap₂ (λ x y. either (option_map WrongHeader x) (option_map WrongContents y)) headed (table_passes b n e rest (end_tests bytes) few ∙ ended)
+      ∙ ap (λ x. either (option_map WrongHeader x) (either (option_map WrongContents (first_failing (contents_tests bytes))) (option_map WrongContents (first_failing (end_tests bytes))))) headed
+      ∙ ap₂ (λ x y. either (option_map WrongContents x) (option_map WrongContents y)) (table_passes b n e rest few) ended
 
   four_edges : e ≤ 262144 → told_edges (fronted true n e rest) ≡ e
   unfolding end_place

@@ -4,12 +4,15 @@ use Rattle.std.proofs.lemmas.Bool.{cases_lt, eqb-true}
 use Rattle.history.specs.Generations.{above}
 use Rattle.history.specs.Ids.{precedes}
 use Rattle.history.proofs.Ids.{precedes_transitive}
+use Rattle.history.specs.declared.load_fault.ChunkFault.TheVariants.{WrongFanOut, UnorderedId, WrongParent}
+use Rattle.history.specs.declared.load_fault.HistoryFault.TheVariants.{WrongLevel}
+use Rattle.history.specs.declared.load_fault.LoadFault.TheVariants.{Chunk, History}
 use Rattle.graph_reader.specs.Bytes.{id_at, row_at, ids_begin, data_begin, data_end, told_count, id_chunk, data_chunk, layout_in}
 use Rattle.graph_reader.specs.ChunkFaults.{order_test}
 use Rattle.graph_reader.specs.Faults.{container_fault}
 use Rattle.graph_reader.specs.FileCommits.{Sound, file_level}
 use Rattle.graph_reader.specs.Levels.{levels_in, level_by, level_test}
-use Rattle.graph_reader.specs.Verdict.{failed_at, parents_read, parents_in, fan_out_fault, order_fault, level_fault, file_fault}
+use Rattle.graph_reader.specs.Verdict.{failed_at, parents_read, parents_in, fan_out_fault, order_fault, chunk_fault, level_fault, file_fault}
 use Rattle.graph_reader.proofs.ContainerSizes.{few_commits, length_id_chunk, length_data_chunk}
 use Rattle.graph_reader.proofs.CountedTests.{counted_pass}
 use Rattle.graph_reader.proofs.LayoutBytes.{between_bytes, wide_slice}
@@ -33,16 +36,17 @@ pub faultless : (bytes : List ℕ) → file_fault bytes ≡ None → Faultless b
 unfolding file_fault
 faultless bytes e =
     let a = either_none _ (container_fault bytes) _ e in
-    let b = either_none _ (fan_out_fault bytes) _ a.1 in
-    let c = either_none _ (order_fault bytes) _ b.1 in
-    let d = either_none _ (failed_at (parents_read bytes)) _ c.1 in
+    let chunks = either_none Chunk (chunk_fault bytes) _ a.1 in
+    let b = either_none WrongFanOut (fan_out_fault bytes) _ chunks.0 in
+    let c = either_none UnorderedId (order_fault bytes) _ b.1 in
+    let parents = mapped_none WrongParent (failed_at (parents_read bytes)) c.1 in
     record {
       container = a.0;
       fan_out = b.0;
       order = c.0;
-      parents = d.0;
-      read = read_whole (parents_read bytes) d.0;
-      levels = mapped_none _ (level_fault bytes) d.1;
+      parents = parents;
+      read = read_whole (parents_read bytes) parents;
+      levels = mapped_none WrongLevel (level_fault bytes) (mapped_none History _ chunks.1);
     }
 
 -- the parents that the rows of a file without fault name

@@ -3,9 +3,8 @@ use Rattle.std.specs.Prelude.{ℕ, ◌+◌, ◌-◌, ◌*◌, cond, List, [], �
 use Rattle.std.specs.List.{range_with_len}
 use Rattle.history.specs.Ids.{precedes}
 use Rattle.graph_file.specs.Layout.{fan_out}
-use Rattle.graph_reader.specs.declared.test.Test.{Test}
 use Rattle.graph_reader.specs.Bytes.{word_at, id_at}
-use Rattle.graph_reader.specs.Faults.{test}
+use Rattle.graph_reader.specs.Faults.{Test, test}
 
 -- the chunk OIDF begins at `place`: each word counts the ids whose first byte is at most its index
 abbrev pub fan_out_test : List ℕ → ℕ → List (List ℕ) → ℕ → Test

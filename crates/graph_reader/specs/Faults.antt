@@ -1,16 +1,19 @@
 -- What a file is refused for, as far as its container goes: the first place whose test fails. Assumes nothing.
-use Rattle.std.specs.Prelude.{ℕ, ◌-◌, ◌/◌, ◌%◌, Bool, cond, ◌&&◌, ◌||◌, List, [], ◌∷◌, ◌++◌, length, Some, None, codes, Option, ◌==◌, nat_le, nat_lt, slice_index}
+use Rattle.std.specs.Prelude.{ℕ, ◌-◌, ◌/◌, ◌%◌, Bool, cond, ◌&&◌, ◌||◌, List, [], ◌∷◌, length, Some, None, codes, Option, ◌==◌, nat_le, nat_lt, slice_index}
 use Rattle.std.specs.Option.{option_map}
 use Rattle.history.specs.declared.load_fault.ContainerFault.{ContainerFault}
 use Rattle.history.specs.declared.load_fault.ContainerFault.TheVariants.{TooShort, WrongHeader, WrongContents}
-use Rattle.graph_reader.specs.declared.test.Test.{Test}
 use Rattle.graph_reader.specs.Bytes.{word_at, long_at, chunks_begin, ids_begin, data_end}
+
+-- a test of a file, with the byte place that it is about
+pub record Test : Type 0 where
+  pub place : ℕ
+  pub passed : Bool
 
 abbrev pub first_failing : List Test → Option ℕ
 first_failing [] = None
 first_failing (t ∷ ts) = cond t.passed (first_failing ts) (Some t.place)
 
--- a test, with the byte place that it is about
 abbrev pub test : ℕ → Bool → Test
 test at passed = record { place = at; passed = passed }
 
@@ -61,4 +64,5 @@ module _ (bytes : List ℕ) where
   abbrev pub container_fault : Option ContainerFault
   container_fault =
       cond (nat_lt (length bytes) 1080) (Some (TooShort (length bytes)))
-      (either (option_map WrongHeader (first_failing header_tests)) (option_map WrongContents (first_failing (contents_tests ++ end_tests))))
+      (either (option_map WrongHeader (first_failing header_tests))
+      (either (option_map WrongContents (first_failing contents_tests)) (option_map WrongContents (first_failing end_tests))))

@@ -3,8 +3,7 @@ use Rattle.std.specs.Prelude.{ℕ, ◌+◌, ◌*◌, ◌/◌, List, [], map, len
 use Rattle.std.specs.List.{range_with_len}
 use Rattle.history.specs.Generations.{above}
 use Rattle.graph_file.specs.Layout.{Row}
-use Rattle.graph_reader.specs.declared.test.Test.{Test}
-use Rattle.graph_reader.specs.Faults.{test}
+use Rattle.graph_reader.specs.Faults.{Test, test}
 
 -- the level in a row: what is above the two lowest bits
 abbrev pub row_level : Row → ℕ

@@ -1,23 +1,30 @@
 -- The parents that the parts of a file name. Assumes nothing.
 use Rattle.std.specs.Prelude.{ℕ, List, ◌++◌, drop, Ok, Err, Result}
 use Rattle.graph_file.specs.Layout.{Row}
-use Rattle.graph_reader.specs.declared.parts.GraphFile.{GraphFile}
-use Rattle.graph_reader.specs.declared.parent_list.ParentList.{ParentList}
+use Rattle.graph_reader.specs.declared.parts.Parts.{Parts}
+use Rattle.arrayvec.specs.ArrayVec.{ArrayVec}
+use Rattle.history.specs.declared.load_fault.ChunkFault.{ChunkFault}
+use Rattle.history.specs.declared.load_fault.ChunkFault.TheVariants.{WrongParent}
 use Rattle.graph_reader.specs.Bytes.{row_at, rows_in, words_in}
 use Rattle.graph_reader.specs.Holding.{listed}
 use Rattle.graph_reader.specs.Parents.{listed_from, others_of, parents_by, parents_from}
 
 -- the positions of a list that was read
-abbrev pub as_read : Result ParentList ℕ → Result (List ℕ) ℕ
+abbrev pub as_read : Result (ArrayVec ℕ) ChunkFault → Result (List ℕ) ChunkFault
 as_read (Ok l) = Ok (listed l)
-as_read (Err place) = Err place
+as_read (Err fault) = Err fault
+
+-- the place of a wrong word, as a fault
+abbrev pub as_fault : {X : Type 0} → Result X ℕ → Result X ChunkFault
+as_fault (Ok x) = Ok x
+as_fault (Err place) = Err (WrongParent place)
 
 -- what was read, behind what came before
 abbrev pub behind : List ℕ → Result (List ℕ) ℕ → Result (List ℕ) ℕ
 behind xs (Ok ys) = Ok (xs ++ ys)
 behind xs (Err place) = Err place
 
-module _ (f : GraphFile) where
+module _ (f : Parts) where
   abbrev pub part_row : ℕ → Row
   part_row p = row_at f.rows.bytes.now p
 

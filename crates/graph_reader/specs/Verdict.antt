@@ -3,6 +3,7 @@ use Rattle.std.specs.Prelude.{ℕ, ◌+◌, List, [], ◌∷◌, length, Some, N
 use Rattle.std.specs.Option.{option_map}
 use Rattle.history.specs.declared.load_fault.ChunkFault.TheVariants.{WrongFanOut, UnorderedId, WrongParent}
 use Rattle.history.specs.declared.load_fault.HistoryFault.TheVariants.{WrongLevel}
+use Rattle.history.specs.declared.load_fault.ChunkFault.{ChunkFault}
 use Rattle.history.specs.declared.load_fault.LoadFault.{LoadFault}
 use Rattle.history.specs.declared.load_fault.LoadFault.TheVariants.{Container, Chunk, History}
 use Rattle.graph_reader.specs.Bytes.{chunks_begin, ids_begin, data_begin, data_end, told_count, fan_out_chunk, id_chunk, layout_in}
@@ -41,11 +42,16 @@ module _ (bytes : List ℕ) where
   abbrev pub level_fault : Option ℕ
   level_fault = first_failing (level_tests (data_begin bytes) (levels_in (layout_in bytes).rows) parents_in)
 
+  -- the first fault of what the chunks hold
+  abbrev pub chunk_fault : Option ChunkFault
+  chunk_fault =
+      either (option_map WrongFanOut fan_out_fault)
+      (either (option_map UnorderedId order_fault)
+      (option_map WrongParent (failed_at parents_read)))
+
   -- the first fault of a file
   unfoldable pub file_fault : Option LoadFault
   file_fault =
       either (option_map Container (container_fault bytes))
-      (either (option_map (λ place. Chunk (WrongFanOut place)) fan_out_fault)
-      (either (option_map (λ place. Chunk (UnorderedId place)) order_fault)
-      (either (option_map (λ place. Chunk (WrongParent place)) (failed_at parents_read))
-      (option_map (λ place. History (WrongLevel place)) level_fault))))
+      (either (option_map Chunk chunk_fault)
+      (option_map History (option_map WrongLevel level_fault)))

@@ -1,66 +1,65 @@
-// The commits of a file, by file position.
-ghost use Rattle.std.specs.Prelude.{◌≡◌, ℕ, ◌<◌, ◌≤◌, List, None};
+// The commits of a file without fault, by file position. Each is read alone: a load queues by level before it reads the rest.
+ghost use Rattle.std.specs.Prelude.{◌≡◌, ◌<◌, ◌≤◌};
+ghost use Rattle.graph_reader.specs.Bytes.{told_count};
 ghost use Rattle.graph_reader.specs.FileCommits.{file_commit, file_level};
-ghost use Rattle.graph_reader.specs.Holding.{Holds, listed};
-ghost use Rattle.graph_reader.specs.Verdict.{total_of, parents_in, file_fault};
+ghost use Rattle.graph_reader.specs.Holding.{listed};
+ghost use Rattle.graph_reader.specs.Verdict.{total_of, parents_in};
 
+use crate::file::GraphFile;
 use crate::parent_list::ParentList;
-use crate::parents::parents_of;
-use crate::parts::GraphFile;
 use history::ObjectId;
 
 impl GraphFile<'_> {
+    // How many commits there are.
     pub fn count(&self) -> usize
-        ensures { result ≡ self.now.count }
+        ensures { result ≡ told_count self.now.file.now }
     {
-        self.count
+        self.parts.count
     }
 
     pub fn id(&self, position: usize) -> ObjectId
-        requires { position < self.now.count }
-        ensures { (bytes : List ℕ) → Holds bytes self.now → result.bytes ≡ (file_commit bytes position).id }
+        requires { position < told_count self.now.file.now }
+        ensures { result.bytes ≡ (file_commit self.now.file.now position).id }
     {
-        self.ids.id(position)
+        self.parts.ids.id(position)
     }
 
     pub fn tree(&self, position: usize) -> ObjectId
-        requires { position < self.now.count }
-        ensures { (bytes : List ℕ) → Holds bytes self.now → result.bytes ≡ (file_commit bytes position).tree }
+        requires { position < told_count self.now.file.now }
+        ensures { result.bytes ≡ (file_commit self.now.file.now position).tree }
     {
-        self.rows.tree(position)
+        self.parts.rows.tree(position)
     }
 
     pub fn date(&self, position: usize) -> u64
-        requires { position < self.now.count }
-        ensures { (bytes : List ℕ) → Holds bytes self.now → result ≡ (file_commit bytes position).date }
+        requires { position < told_count self.now.file.now }
+        ensures { result ≡ (file_commit self.now.file.now position).date }
     {
-        self.rows.date(position)
+        self.parts.rows.date(position)
     }
 
     pub fn level(&self, position: usize) -> u32
-        requires { position < self.now.count }
-        ensures { (bytes : List ℕ) → Holds bytes self.now → result ≡ file_level bytes position }
+        requires { position < told_count self.now.file.now }
+        ensures { result ≡ file_level self.now.file.now position }
     {
-        self.rows.level(position)
+        self.parts.rows.level(position)
     }
 
     // The parents, as file positions.
     pub fn parents(&self, position: usize) -> ParentList
-        requires { position < self.now.count }
-        ensures { (bytes : List ℕ) → Holds bytes self.now → file_fault bytes ≡ None → listed result ≡ (file_commit bytes position).parents }
+        requires { position < told_count self.now.file.now }
+        ensures { listed result ≡ (file_commit self.now.file.now position).parents }
     {
-        parents_of(self, position)
+        self.parts.parents_of(position)
     }
 
     // How many parents the commits list in all.
     pub fn parent_total(&self) -> usize
         ensures few { result ≤ 4194304 }
-        ensures told { (bytes : List ℕ) → Holds bytes self.now → file_fault bytes ≡ None → result ≡ total_of (parents_in bytes) }
+        ensures told { result ≡ total_of (parents_in self.now.file.now) }
     {
-        let mut total = 0;
-        for position in 0..self.count {
-            total += parents_of(self, position).len();
-        }
-        total
+        (0..self.count())
+            .map(|position| self.parents(position).len())
+            .sum()
     }
 }

@@ -1,12 +1,15 @@
 // The container of a file: its header and its table of chunks.
-ghost use Rattle.std.specs.Prelude.{◌≡◌, ◌+◌, ◌-◌, ◌*◌, ◌/◌, ◌≤◌, ◌++◌, length};
+ghost use Rattle.std.specs.Prelude.{◌≡◌, ◌+◌, ◌-◌, ◌*◌, ◌/◌, ◌≤◌, length, cond, Some, None};
+ghost use Rattle.std.specs.Option.{option_map};
 ghost use Rattle.graph_reader.specs.Bytes.{word_at, long_at, chunks_begin, ids_begin, told_count, data_end, told_edges};
 ghost use Rattle.graph_reader.specs.Faults.{first_failing, stepped_by, header_tests, contents_tests, three_tests, four_tests, end_tests, container_fault};
+ghost use Rattle.history.specs.Model.{refused_with};
+ghost use Rattle.history.specs.declared.load_fault.ContainerFault.TheVariants.{WrongHeader, WrongContents};
 
-use crate::test::Test;
 use history::ContainerFault;
+use history::ContainerFault::{TooShort, WrongContents, WrongHeader};
 
-// the names of the chunks, as words
+// the names of the chunks as words, written out: a constant cannot call from_be_bytes
 const OIDF: u32 = 0x4f49_4446;
 
 const OIDL: u32 = 0x4f49_444c;
@@ -19,28 +22,22 @@ pub fn word(file: &[u8], at: usize) -> u32
     requires { at + 4 ≤ length file.now }
     ensures { result ≡ word_at file.now at }
 {
-    file[at] as u32 * 16_777_216
-        + file[at + 1] as u32 * 65_536
-        + file[at + 2] as u32 * 256
-        + file[at + 3] as u32
+    u32::from_be_bytes(*file[at..].first_chunk().unwrap())
 }
 
+// apart from the shorter one: no trait has the big-endian bytes of both types
 pub fn long_word(file: &[u8], at: usize) -> u64
     requires { at + 8 ≤ length file.now }
     ensures { result ≡ long_at file.now at }
 {
-    word(file, at) as u64 * 4_294_967_296 + word(file, at + 4) as u64
+    u64::from_be_bytes(*file[at..].first_chunk().unwrap())
 }
 
-fn first_of(tests: &[Test]) -> Option<usize>
-    ensures { result ≡ first_failing tests.now }
+// Refuses a file that fails a test.
+fn expect(passed: bool, fault: ContainerFault) -> Result<(), ContainerFault>
+    ensures { refused_with result ≡ cond passed None (Some fault) }
 {
-    for test in tests {
-        if !test.passed {
-            return Some(test.place);
-        }
-    }
-    None
+    if passed { Ok(()) } else { Err(fault) }
 }
 
 // Whether `to` lies a whole number of steps behind `from`, from `least` to `most` of them.
@@ -55,211 +52,142 @@ fn is_stepped(step: u64, least: u64, most: u64, from: u64, to: u64) -> bool
     apart % step == 0 && apart / step >= least && apart / step <= most
 }
 
-// The tests of the header: "CGPH", 1, 1, three or four chunks, 0.
-fn header(file: &[u8]) -> [Test; 8]
-    requires { 1080 ≤ length file.now }
-    ensures { result ≡ header_tests file.now }
-{
-    [
-        Test {
-            place: 0,
-            passed: file[0] == 67,
-        },
-        Test {
-            place: 1,
-            passed: file[1] == 71,
-        },
-        Test {
-            place: 2,
-            passed: file[2] == 80,
-        },
-        Test {
-            place: 3,
-            passed: file[3] == 72,
-        },
-        Test {
-            place: 4,
-            passed: file[4] == 1,
-        },
-        Test {
-            place: 5,
-            passed: file[5] == 1,
-        },
-        Test {
-            place: 6,
-            passed: file[6] == 3 || file[6] == 4,
-        },
-        Test {
-            place: 7,
-            passed: file[7] == 0,
-        },
-    ]
+// The header and the table of chunks of a file that is long enough to hold them.
+#[derive(Clone, Copy)]
+pub struct Front<'f> {
+    pub file: &'f [u8],
+    ghost long: { 1080 ≤ length file.now },
 }
 
-pub fn chunks_begin(file: &[u8]) -> u64
-    requires { 1080 ≤ length file.now }
-    ensures { result ≡ chunks_begin file.now }
-{
-    8 + 12 * (file[6] as u64 + 1)
-}
+impl Front<'_> {
+    // The header: "CGPH", 1, 1, three or four chunks, 0.
+    fn check_header(&self) -> Result<(), ContainerFault>
+        ensures { refused_with result ≡ option_map WrongHeader (first_failing (header_tests self.now.file.now)) }
+    {
+        let file = self.file;
+        expect(file[0] == b'C', WrongHeader(0))?;
+        expect(file[1] == b'G', WrongHeader(1))?;
+        expect(file[2] == b'P', WrongHeader(2))?;
+        expect(file[3] == b'H', WrongHeader(3))?;
+        expect(file[4] == 1, WrongHeader(4))?;
+        expect(file[5] == 1, WrongHeader(5))?;
+        expect(file[6] == 3 || file[6] == 4, WrongHeader(6))?;
+        expect(file[7] == 0, WrongHeader(7))
+    }
 
-pub fn ids_begin(file: &[u8]) -> u64
-    requires { 1080 ≤ length file.now }
-    ensures { result ≡ ids_begin file.now }
-{
-    chunks_begin(file) + 1024
-}
+    pub fn chunks_begin(&self) -> u64
+        ensures low { result ≤ 3080 }
+        ensures value { result ≡ chunks_begin self.now.file.now }
+    {
+        8 + 12 * (self.file[6] as u64 + 1)
+    }
 
-// How many commits the place of CDAT tells of.
-pub fn told_count(file: &[u8]) -> u64
-    requires { 1080 ≤ length file.now }
-    ensures { result ≡ told_count file.now }
-{
-    long_word(file, 36).saturating_sub(ids_begin(file)) / 20
-}
+    pub fn ids_begin(&self) -> u64
+        ensures low { result ≤ 4104 }
+        ensures value { result ≡ ids_begin self.now.file.now }
+    {
+        self.chunks_begin() + 1024
+    }
 
-// The tests of the table of chunks up to the place of CDAT.
-fn contents(file: &[u8]) -> [Test; 6]
-    requires { 1080 ≤ length file.now }
-    ensures { result ≡ contents_tests file.now }
-{
-    [
-        Test {
-            place: 8,
-            passed: word(file, 8) == OIDF,
-        },
-        Test {
-            place: 12,
-            passed: long_word(file, 12) == chunks_begin(file),
-        },
-        Test {
-            place: 20,
-            passed: word(file, 20) == OIDL,
-        },
-        Test {
-            place: 24,
-            passed: long_word(file, 24) == ids_begin(file),
-        },
-        Test {
-            place: 32,
-            passed: word(file, 32) == CDAT,
-        },
-        Test {
-            place: 36,
-            passed: is_stepped(20, 0, 65_536, ids_begin(file), long_word(file, 36)),
-        },
-    ]
-}
+    // How many commits the place of CDAT tells of.
+    pub fn told_count(&self) -> u64
+        ensures { result ≡ told_count self.now.file.now }
+    {
+        long_word(self.file, 36).saturating_sub(self.ids_begin()) / 20
+    }
 
-fn data_end(file: &[u8]) -> u64
-    requires long { 1080 ≤ length file.now }
-    requires few { told_count file.now ≤ 65536 }
-    ensures { result ≡ data_end file.now }
-{
-    ids_begin(file) + 56 * told_count(file)
-}
-
-// How many extra edges the file's end tells of.
-pub fn told_edges(file: &[u8]) -> u64
-    requires long { 1080 ≤ length file.now }
-    requires few { told_count file.now ≤ 65536 }
-    ensures { result ≡ told_edges file.now }
-{
-    if file[6] == 3 {
-        0
-    } else {
-        long_word(file, 60).saturating_sub(data_end(file)) / 4
+    // The table of chunks up to the place of CDAT.
+    fn check_contents(&self) -> Result<(), ContainerFault>
+        ensures { refused_with result ≡ option_map WrongContents (first_failing (contents_tests self.now.file.now)) }
+    {
+        let file = self.file;
+        let ids = self.ids_begin();
+        expect(word(file, 8) == OIDF, WrongContents(8))?;
+        expect(
+            long_word(file, 12) == self.chunks_begin(),
+            WrongContents(12),
+        )?;
+        expect(word(file, 20) == OIDL, WrongContents(20))?;
+        expect(long_word(file, 24) == ids, WrongContents(24))?;
+        expect(word(file, 32) == CDAT, WrongContents(32))?;
+        let stepped = is_stepped(20, 0, 65_536, ids, long_word(file, 36));
+        expect(stepped, WrongContents(36))
     }
 }
 
-// The tests of the end of the table where there are three chunks.
-fn end_of_three(file: &[u8]) -> [Test; 3]
-    requires long { 1080 ≤ length file.now }
-    requires few { told_count file.now ≤ 65536 }
-    ensures { result ≡ three_tests file.now }
-{
-    [
-        Test {
-            place: 44,
-            passed: word(file, 44) == 0,
-        },
-        Test {
-            place: 48,
-            passed: long_word(file, 48) == data_end(file),
-        },
-        Test {
-            place: 48,
-            passed: long_word(file, 48) == file.len() as u64,
-        },
-    ]
+// A front that tells of no more commits than a file may hold.
+#[derive(Clone, Copy)]
+pub struct Counted<'f> {
+    pub front: Front<'f>,
+    ghost few: { told_count front.file.now ≤ 65536 },
 }
 
-// The tests of the end of the table where there are four.
-fn end_of_four(file: &[u8]) -> [Test; 5]
-    requires long { 1080 ≤ length file.now }
-    requires few { told_count file.now ≤ 65536 }
-    ensures { result ≡ four_tests file.now }
-{
-    [
-        Test {
-            place: 44,
-            passed: word(file, 44) == EDGE,
-        },
-        Test {
-            place: 48,
-            passed: long_word(file, 48) == data_end(file),
-        },
-        Test {
-            place: 56,
-            passed: word(file, 56) == 0,
-        },
-        Test {
-            place: 60,
-            passed: is_stepped(4, 2, 262_144, data_end(file), long_word(file, 60)),
-        },
-        Test {
-            place: 60,
-            passed: long_word(file, 60) == file.len() as u64,
-        },
-    ]
-}
+impl Counted<'_> {
+    fn data_end(&self) -> u64
+        ensures { result ≡ data_end self.now.front.file.now }
+    {
+        self.front.ids_begin() + 56 * self.front.told_count()
+    }
 
-// The tests of the end of the table.
-fn end_fault(file: &[u8]) -> Option<usize>
-    requires long { 1080 ≤ length file.now }
-    requires few { told_count file.now ≤ 65536 }
-    ensures { result ≡ first_failing (end_tests file.now) }
-{
-    if file[6] == 3 {
-        first_of(&end_of_three(file))
-    } else {
-        first_of(&end_of_four(file))
+    // How many extra edges the file's end tells of.
+    pub fn told_edges(&self) -> u64
+        ensures { result ≡ told_edges self.now.front.file.now }
+    {
+        let file = self.front.file;
+        if file[6] == 3 {
+            0
+        } else {
+            long_word(file, 60).saturating_sub(self.data_end()) / 4
+        }
+    }
+
+    // The end of the table where there are three chunks.
+    fn check_end_of_three(&self) -> Result<(), ContainerFault>
+        ensures { refused_with result ≡ option_map WrongContents (first_failing (three_tests self.now.front.file.now)) }
+    {
+        let file = self.front.file;
+        let end = long_word(file, 48);
+        expect(word(file, 44) == 0, WrongContents(44))?;
+        expect(end == self.data_end(), WrongContents(48))?;
+        expect(end == file.len() as u64, WrongContents(48))
+    }
+
+    // The end of the table where there are four.
+    fn check_end_of_four(&self) -> Result<(), ContainerFault>
+        ensures { refused_with result ≡ option_map WrongContents (first_failing (four_tests self.now.front.file.now)) }
+    {
+        let file = self.front.file;
+        let rows_end = self.data_end();
+        let end = long_word(file, 60);
+        expect(word(file, 44) == EDGE, WrongContents(44))?;
+        expect(long_word(file, 48) == rows_end, WrongContents(48))?;
+        expect(word(file, 56) == 0, WrongContents(56))?;
+        let stepped = is_stepped(4, 2, 262_144, rows_end, end);
+        expect(stepped, WrongContents(60))?;
+        expect(end == file.len() as u64, WrongContents(60))
+    }
+
+    // The end of the table.
+    fn check_end(&self) -> Result<(), ContainerFault>
+        ensures { refused_with result ≡ option_map WrongContents (first_failing (end_tests self.now.front.file.now)) }
+    {
+        if self.front.file[6] == 3 {
+            self.check_end_of_three()
+        } else {
+            self.check_end_of_four()
+        }
     }
 }
 
-// The byte place of the first fault of the table of chunks, if it has one.
-fn contents_fault(file: &[u8]) -> Option<usize>
-    requires { 1080 ≤ length file.now }
-    ensures { result ≡ first_failing (contents_tests file.now ++ end_tests file.now) }
-{
-    if let Some(place) = first_of(&contents(file)) {
-        return Some(place);
-    }
-    end_fault(file)
-}
-
-// The container's first fault, if it has one.
-pub fn container_fault(file: &[u8]) -> Option<ContainerFault>
-    ensures { result ≡ container_fault file.now }
+// Refuses a file for the first fault of its container.
+pub fn check_container(file: &[u8]) -> Result<(), ContainerFault>
+    ensures { refused_with result ≡ container_fault file.now }
 {
     if file.len() < 1080 {
-        return Some(ContainerFault::TooShort(file.len()));
+        return Err(TooShort(file.len()));
     }
-    if let Some(place) = first_of(&header(file)) {
-        return Some(ContainerFault::WrongHeader(place));
-    }
-    if let Some(place) = contents_fault(file) {
-        return Some(ContainerFault::WrongContents(place));
-    }
-    None
+    let front = Front { file };
+    front.check_header()?;
+    front.check_contents()?;
+    Counted { front }.check_end()
 }

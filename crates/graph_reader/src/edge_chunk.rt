@@ -2,20 +2,15 @@
 ghost use Rattle.std.specs.Prelude.{◌≡◌, ◌+◌, ◌*◌, ◌≤◌, length};
 ghost use Rattle.graph_reader.specs.Bytes.{word_in};
 
-use crate::container::word;
+use crate::chunk::Chunk;
 
-// The part of a file that the chunk takes, with its byte place.
-#[derive(Clone, Copy)]
-pub struct EdgeChunk<'f> {
-    pub bytes: &'f [u8],
-    pub place: usize,
-}
+pub type EdgeChunk<'f> = Chunk<'f, 4>;
 
-impl EdgeChunk<'_> {
+impl Chunk<'_, 4> {
     pub fn entry(&self, i: usize) -> u32
         requires { 4 * i + 4 ≤ length self.now.bytes.now }
         ensures { result ≡ word_in self.now.bytes.now i }
     {
-        word(self.bytes, 4 * i)
+        self.word(i, 0)
     }
 }

@@ -1,9 +1,4 @@
-// The parents of a commit of a file, as file positions: at most 64.
-ghost use Rattle.std.specs.Prelude.{◌≤◌};
+// The parents of a commit of a file: as file positions, and in a load as numbers.
+use arrayvec::ArrayVec;
 
-#[derive(Clone, Copy)]
-pub struct ParentList {
-    pub(crate) positions: [u32; 64],
-    pub(crate) size: usize,
-    ghost few: { size ≤ 64 },
-}
+pub type ParentList = ArrayVec<u32, 64>;

@@ -1,41 +1,42 @@
-// Reading a file: its first fault, or the parts that hold its commits.
-ghost use Rattle.std.specs.Prelude.{◌≡◌, ℕ, ◌<◌, None, slice_index};
+// Reading a file: its first fault, or the file with its parts.
+ghost use Rattle.std.specs.Prelude.{◌≡◌, ℕ, ◌<◌, None, IfOk, slice_index};
 ghost use Rattle.graph_reader.specs.Faults.{container_fault};
 ghost use Rattle.graph_reader.specs.Holding.{Holds};
-ghost use Rattle.graph_reader.specs.Verdict.{fan_out_fault, file_fault};
+ghost use Rattle.graph_reader.specs.Verdict.{chunk_fault, fan_out_fault, file_fault};
+ghost use Rattle.history.specs.Model.{refused_with};
+ghost use Rattle.history.specs.declared.load_fault.ChunkFault.TheVariants.{WrongFanOut};
+ghost use Rattle.std.specs.Option.{option_map};
 
-use crate::container::{chunks_begin, container_fault, ids_begin, told_count, told_edges};
-use crate::data_chunk::DataChunk;
-use crate::edge_chunk::EdgeChunk;
+use crate::chunk::Chunk;
+use crate::container::{Counted, Front, check_container};
 use crate::fan_out_chunk::FanOutChunk;
+use crate::file::GraphFile;
 use crate::first_bytes::fan_out_counts;
-use crate::id_chunk::IdChunk;
-use crate::levels::first_wrong_level;
-use crate::parents::first_wrong_parent;
-use crate::parts::GraphFile;
-use history::{ChunkFault, HistoryFault, LoadFault};
+use crate::parts::Parts;
+use history::{ChunkFault, LoadFault};
 
 // The parts of a file whose container is right.
-fn cut(file: &[u8]) -> GraphFile<'_>
+fn cut(file: &[u8]) -> Parts<'_>
     requires { container_fault file.now ≡ None }
     ensures held { Holds file.now result }
     ensures small { (i : ℕ) → slice_index file.now i < 256 }
 {
-    let count = told_count(file) as usize;
-    let entries = told_edges(file) as usize;
-    let ids = ids_begin(file) as usize;
+    let front = Front { file };
+    let count = front.told_count() as usize;
+    let entries = Counted { front }.told_edges() as usize;
+    let ids = front.ids_begin() as usize;
     let rows = ids + 20 * count;
     let edges = ids + 56 * count;
-    GraphFile {
-        ids: IdChunk {
+    Parts {
+        ids: Chunk {
             bytes: &file[ids..rows],
             place: ids,
         },
-        rows: DataChunk {
+        rows: Chunk {
             bytes: &file[rows..edges],
             place: rows,
         },
-        edges: EdgeChunk {
+        edges: Chunk {
             bytes: &file[edges..edges + 4 * entries],
             place: edges,
         },
@@ -44,48 +45,59 @@ fn cut(file: &[u8]) -> GraphFile<'_>
     }
 }
 
-// The byte place of the first word of OIDF that is wrong.
-fn first_wrong_count(file: &[u8], parts: &GraphFile<'_>) -> Option<usize>
+// Refuses a word of OIDF that is not the count it should be. File and parts go side by side until the last test is passed: only then are they a GraphFile.
+fn check_fan_out(file: &[u8], parts: &Parts<'_>) -> Result<(), ChunkFault>
     requires fine { container_fault file.now ≡ None }
     requires held { Holds file.now parts.now }
-    ensures { result ≡ fan_out_fault file.now }
+    ensures { refused_with result ≡ option_map WrongFanOut (fan_out_fault file.now) }
 {
-    let begin = chunks_begin(file) as usize;
-    let chunk = FanOutChunk {
+    let begin = Front { file }.chunks_begin() as usize;
+    let chunk: FanOutChunk<'_> = Chunk {
         bytes: &file[begin..begin + 1024],
         place: begin,
     };
-    chunk.first_wrong(fan_out_counts(&parts.ids, parts.count))
+    chunk.check_counts(fan_out_counts(parts.ids.ids()))
 }
 
-// The file's first fault, if it has one.
+// Refuses a file for the first fault of what its chunks hold.
+#[tactic(auto, using(crate::proofs::PartsHeld::order_held, crate::proofs::PartsHeld::parents_held_by))]
+fn check_chunks(file: &[u8], parts: &Parts<'_>) -> Result<(), ChunkFault>
+    requires fine { container_fault file.now ≡ None }
+    requires held { Holds file.now parts.now }
+    ensures { refused_with result ≡ chunk_fault file.now }
+{
+    check_fan_out(file, parts)?;
+    parts.ids.check_order(parts.count)?;
+    parts.check_parents()
+}
+
+// A file that is known to be without fault.
+pub fn open(file: &[u8]) -> GraphFile<'_>
+    requires { file_fault file.now ≡ None }
+    ensures { result.file.now ≡ file.now }
+{
+    GraphFile {
+        file,
+        parts: cut(file),
+    }
+}
+
+// A file without fault, or the first fault of another.
+#[tactic(auto, using(crate::proofs::PartsHeld::parents_right, crate::proofs::PartsHeld::levels_decide), unfolding(crate::specs::Verdict::file_fault))]
+pub fn read(file: &[u8]) -> Result<GraphFile<'_>, LoadFault>
+    ensures fault { refused_with result ≡ file_fault file.now }
+    ensures same { IfOk result (λ read. read.file.now ≡ file.now) }
+{
+    check_container(file)?;
+    let parts = cut(file);
+    check_chunks(file, &parts)?;
+    parts.check_levels()?;
+    Ok(open(file))
+}
+
+// A file's first fault, if it has one. An `Option`, since it asks for the fault alone.
 pub fn fault_of(file: &[u8]) -> Option<LoadFault>
     ensures { result ≡ file_fault file.now }
 {
-    if let Some(fault) = container_fault(file) {
-        return Some(LoadFault::Container(fault));
-    }
-    let parts = cut(file);
-    if let Some(place) = first_wrong_count(file, &parts) {
-        return Some(LoadFault::Chunk(ChunkFault::WrongFanOut(place)));
-    }
-    if let Some(place) = parts.ids.first_unordered(parts.count) {
-        return Some(LoadFault::Chunk(ChunkFault::UnorderedId(place)));
-    }
-    if let Some(place) = first_wrong_parent(&parts) {
-        return Some(LoadFault::Chunk(ChunkFault::WrongParent(place)));
-    }
-    if let Some(place) = first_wrong_level(&parts) {
-        return Some(LoadFault::History(HistoryFault::WrongLevel(place)));
-    }
-    None
-}
-
-// The parts of a file without fault.
-pub fn open(file: &[u8]) -> GraphFile<'_>
-    requires { file_fault file.now ≡ None }
-    ensures held { Holds file.now result }
-    ensures small { (i : ℕ) → slice_index file.now i < 256 }
-{
-    cut(file)
+    read(file).err()
 }

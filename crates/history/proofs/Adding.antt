@@ -2,12 +2,15 @@
 use Rattle.std.proofs.Common.{◌≡◌, ℕ, ◌+◌, ◌<◌, ◌≤◌, List, [], ◌∷◌, ◌++◌, length, get_or, sym, refl, subst, ⊎_elim, arith}
 use Rattle.std.proofs.lemmas.Bool.{cases_eq, cases_lt}
 use Rattle.std.proofs.lemmas.List.{get_or_append_left, get_or_push, get_or_past, length_push}
-use Rattle.history.specs.History.{Commit, no_commit, commit_of, parent_total, Wellformed}
+use Rattle.history.specs.History.{Commit, no_commit, commit_of, parent_total, Proper, Wellformed}
 use Rattle.history.proofs.Finding.{Absent}
 
 pub total_push : (h : List Commit) (c : Commit) → parent_total (h ++ (c ∷ [])) ≡ parent_total h + length c.parents
 total_push [] c = omega arith
 total_push (x ∷ h) c = omega (arith, total_push h c)
+
+pub proper_of : {h : List Commit} → Wellformed h → Proper h
+proper_of w = record { falling = w.falling; dated = w.dated; few = w.few; wide = w.wide }
 
 module _ (h : List Commit) (c : Commit) where
   pub commit_old : (a : ℕ) → a < length h → commit_of (h ++ (c ∷ [])) a ≡ commit_of h a
@@ -34,9 +37,9 @@ module _ (h : List Commit) (c : Commit) where
       (λ ge. subst (P a) (sym (get_or_past (h ++ (c ∷ [])) a no_commit (omega (arith, length_push h c)))) (none a))
       (cases_lt a (length h + 1))
 
-  pub wellformed_push : Wellformed h → c.date ≤ 17179869183 → length c.parents ≤ 64 → ((j : ℕ) → j < length c.parents → get_or c.parents j 0 < length h) →
-      length c.id ≡ 20 → length c.tree ≡ 20 → Absent h c.id → Wellformed (h ++ (c ∷ []))
-  wellformed_push w dated few held id tree absent =
+  pub proper_push : Proper h → c.date ≤ 17179869183 → length c.parents ≤ 64 → ((j : ℕ) → j < length c.parents → get_or c.parents j 0 < length h) →
+      length c.id ≡ 20 → length c.tree ≡ 20 → Proper (h ++ (c ∷ []))
+  proper_push w dated few held id tree =
       let long = length_push h c in
       record {
         falling = λ a p q.
@@ -45,6 +48,17 @@ module _ (h : List Commit) (c : Commit) where
         dated = all_push (λ _ x. x.date ≤ 17179869183) (λ _. omega arith) (λ a _. w.dated a) dated;
         few = all_push (λ _ x. length x.parents ≤ 64) (λ _. omega arith) (λ a _. w.few a) few;
         wide = λ a lt. each_push (λ _ x. (length x.id ≡ 20) × (length x.tree ≡ 20)) w.wide (id, tree) a (omega arith);
+      }
+
+  -- a commit with a new id more
+  pub wellformed_push : Wellformed h → Absent h c.id → Proper (h ++ (c ∷ [])) → Wellformed (h ++ (c ∷ []))
+  wellformed_push w absent proper =
+      let long = length_push h c in
+      record {
+        falling = proper.falling;
+        dated = proper.dated;
+        few = proper.few;
+        wide = proper.wide;
         distinct = λ a b la lb.
             each_push (λ i x. x.id ≡ (commit_of (h ++ (c ∷ [])) b).id → i ≡ b)
             (λ i l. each_push (λ j y. (commit_of h i).id ≡ y.id → i ≡ j) (λ j lj e. w.distinct i j l lj e) (λ e. absurd (absent i l e)) b (omega arith))

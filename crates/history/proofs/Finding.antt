@@ -1,11 +1,14 @@
 -- Where an id stands in the order by id. Assumes nothing.
-use Rattle.std.proofs.Common.{◌≡◌, ℕ, zero, suc, ◌+◌, ◌<◌, ◌≤◌, true, false, List, [], ◌∷◌, length, get_or, Some, None, sym, refl, ap, ◌∙◌, subst, ⊎_elim, add-zero, arith}
-use Rattle.std.proofs.lemmas.Bool.{cases_Bool, cases_eq, cases_lt, cond-true, cond-false, both_ways}
+use Rattle.std.proofs.Common.{◌≡◌, ℕ, zero, suc, ◌+◌, ◌<◌, ◌≤◌, Bool, true, false, ◌&&◌, ltb, List, [], ◌∷◌, length, get_or, take, Some, None, sym, refl, ap, ◌∙◌, subst, ⊎_elim, add-zero, arith}
+use Rattle.std.specs.List.Sorted.{IsPartitionPoint, IsPartitionedBy}
+use Rattle.std.proofs.lemmas.Bool.{cases_Bool, cases_eq, cases_lt, cond-true, cond-false, both_ways, lt-ltb}
+use Rattle.std.proofs.lemmas.Grind.{get_or_default_zero}
+use Rattle.std.proofs.lemmas.List.{get_or-take, length-take-le}
 use Rattle.history.specs.declared.row.CommitRow.{CommitRow}
 use Rattle.history.specs.History.{Commit, commit_of, find_from, find_id, Wellformed}
 use Rattle.history.specs.Ids.{precedes, same}
 use Rattle.history.specs.Order.{Splits}
-use Rattle.history.specs.Tables.{row_of, Rising}
+use Rattle.history.specs.Tables.{row_of, Within, Rising}
 use Rattle.history.proofs.Ids.{precedes_transitive, not_before_itself, same_true, same_itself}
 
 -- no commit has the id
@@ -51,49 +54,47 @@ module _ (rows : List CommitRow) (order : List ℕ) (count : ℕ) (id : List ℕ
   abbrev id_at : ℕ → List ℕ
   id_at i = (row_of rows (get_or order i 0)).id.bytes
 
-  pub splits_none : Splits rows order count id 0 count
-  splits_none = record { before = λ i lt. absurd (omega arith); after = λ i le lt. absurd (omega arith) }
+  module _ (within : Within order count) (listed : count ≤ length order) where
+    -- whether a number is a commit's whose id comes before this one
+    abbrev pub comes : ℕ → Bool
+    comes a = ltb a count && precedes (row_of rows a).id.bytes id
 
-  -- the middle entry comes before the id, so those below it do
-  pub splits_up : (low high middle : ℕ) → low ≤ middle → middle < high → high ≤ count → precedes (id_at middle) id ≡ true →
-      Splits rows order count id low high → Splits rows order count id (middle + 1) high
-  splits_up low high middle a b c e s = record {
-    before = λ i lt.
-        ⊎_elim
-        (λ same_place. subst (λ j. precedes (id_at j) id ≡ true) (sym same_place) e)
-        (λ other. precedes_transitive (id_at i) (id_at middle) id (rising i middle (omega arith) (omega arith)) e)
-        (cases_eq i middle);
-    after = s.after;
-  }
+    at : (i d : ℕ) → i < count → get_or (take count order) i d ≡ get_or order i 0
+    at i d lt = get_or-take count order i d lt ∙ get_or_default_zero order i d (omega arith)
 
-  -- the middle entry does not come before the id, so those above it do not
-  pub splits_down : (low high middle : ℕ) → low ≤ middle → middle < high → high ≤ count → precedes (id_at middle) id ≡ false →
-      Splits rows order count id low high → Splits rows order count id low middle
-  splits_down low high middle a b c e s = record {
-    before = s.before;
-    after = λ i le lt.
-        ⊎_elim
-        (λ same_place. subst (λ j. precedes (id_at j) id ≡ false) (sym same_place) e)
-        (λ other.
-        ⊎_elim
-        (λ p. absurd (both_ways (precedes (id_at middle) id) e (precedes_transitive (id_at middle) (id_at i) id (rising middle i (omega arith) lt) p)))
-        (λ p. p)
-        (cases_Bool (precedes (id_at i) id)))
-        (cases_eq i middle);
-  }
+    before : (i : ℕ) → i < count → comes (get_or order i 0) ≡ precedes (id_at i) id
+    before i lt = ap (λ b. b && precedes (id_at i) id) (lt-ltb (get_or order i 0) count (within i lt))
+
+    long : length (take count order) ≡ count
+    long = length-take-le count order listed
+
+    -- the commits whose ids come before it stand in front of the others
+    pub parted : IsPartitionedBy comes (take count order)
+    parted i j d le lt e =
+        let l : j < count = omega (arith, long) in
+        let p : precedes (id_at j) id ≡ true = sym (before j l) ∙ sym (ap comes (at j d l)) ∙ e in
+        ap comes (at i d (omega arith)) ∙ before i (omega arith)
+        ∙ ⊎_elim
+        (λ same_place. ap (λ k. precedes (id_at k) id) same_place ∙ p)
+        (λ other. precedes_transitive (id_at i) (id_at j) id (rising i j (omega arith) l) p)
+        (cases_eq i j)
+
+    pub splits_at : (i : ℕ) → i ≤ count → IsPartitionPoint (λ a. comes a ≡ true) (λ a. comes a ≡ false) (take count order) i → Splits rows order count id i i
+    splits_at i le halves = record {
+      before = λ k lt. sym (before k (omega arith)) ∙ sym (ap comes (at k 0 (omega arith))) ∙ halves.0 k 0 (omega arith) lt;
+      after = λ k ge lt. sym (before k lt) ∙ sym (ap comes (at k 0 lt)) ∙ halves.1 k 0 ge (omega (arith, long));
+    }
 
   -- an id that is not at its place is nowhere
-  pub not_there : (place : ℕ) → Splits rows order count id place place → (place < count → precedes id (id_at place) ≡ true) →
+  pub not_there : (place : ℕ) → Splits rows order count id place place → (place < count → id_at place ≡ id → ⊥) →
       (i : ℕ) → i < count → id_at i ≡ id → ⊥
-  not_there place s there i lt e =
+  not_there place s other_id i lt e =
       ⊎_elim
       (λ low. both_ways (precedes id id) (not_before_itself id) (subst (λ x. precedes x id ≡ true) e (s.before i low)))
       (λ high.
-      let here = there (omega arith) in
       ⊎_elim
-      (λ same_place. both_ways (precedes id id) (not_before_itself id) (subst (λ x. precedes id x ≡ true) (ap id_at (sym same_place) ∙ e) here))
+      (λ same_place. other_id (omega arith) (ap id_at (sym same_place) ∙ e))
       (λ other.
-      let p = precedes_transitive id (id_at place) (id_at i) here (rising place i (omega arith) lt) in
-      both_ways (precedes id id) (not_before_itself id) (subst (λ x. precedes id x ≡ true) e p))
+      both_ways (precedes (id_at place) id) (s.after place (omega arith) (omega arith)) (subst (λ x. precedes (id_at place) x ≡ true) e (rising place i (omega arith) lt)))
       (cases_eq i place))
       (cases_lt i place)

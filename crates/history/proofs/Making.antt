@@ -1,7 +1,6 @@
 -- One parent more. Assumes nothing.
-use Rattle.std.proofs.Common.{◌≡◌, ℕ, ◌+◌, ◌<◌, ◌≤◌, List, length, get_or, take, sym, ap, ◌∙◌, ap₂}
+use Rattle.std.proofs.Common.{◌≡◌, ℕ, ◌+◌, ◌<◌, List, length, get_or, take, sym, ◌∙◌, ap₂}
 use Rattle.std.proofs.lemmas.List.Sums.{fold_more}
-use Rattle.std.proofs.lemmas.List.{take_all}
 use Rattle.history.specs.Labels.{made}
 
 module _ {L : Type 0} (start : ℕ → ℕ → L) (grown : L → L → L) (ls : List L) (date : ℕ) (ps : List ℕ) where
@@ -11,6 +10,3 @@ module _ {L : Type 0} (start : ℕ → ℕ → L) (grown : L → L → L) (ls : 
   made_more i x y z lt ex ey ez =
       let s = start (length ls) date in
       ez ∙ ap₂ grown ex ey ∙ sym (fold_more (λ a q. grown a (get_or ls q s)) s ps i 0 lt)
-
-  pub made_all : (i : ℕ) (x : L) → length ps ≤ i → x ≡ made start grown ls date (take i ps) → x ≡ made start grown ls date ps
-  made_all i x le e = e ∙ ap (λ l. made start grown ls date l) (take_all i ps le)

@@ -1,17 +1,23 @@
 -- The tables after one more commit. Assumes nothing.
-use Rattle.std.proofs.Common.{◌≡◌, ℕ, ◌+◌, ◌-◌, ◌<◌, ◌≤◌, true, List, [], ◌∷◌, ◌++◌, map, length, get_or, take, drop, set, sym, ap, ◌∙◌, subst, ap₂, ⊎_elim, arith}
+use Rattle.std.proofs.Common.{◌≡◌, ℕ, ◌+◌, ◌-◌, ◌<◌, ◌≤◌, true, List, [], ◌∷◌, ◌++◌, map, length, get_or, take, drop, set, sym, refl, ap, ◌∙◌, subst, ap₂, ⊎_elim, arith}
 use lib.Seq.{paste}
 use Rattle.std.specs.List.{between}
 use Rattle.std.proofs.lemmas.Bool.{cases_eq, cases_lt, cases_Bool}
-use Rattle.std.proofs.lemmas.Slice.{between_is}
+use Rattle.std.proofs.lemmas.Slice.{between_is, put_mid-paste}
 use Rattle.std.proofs.lemmas.List.Edits.{take-paste, get_or-between}
-use Rattle.std.proofs.lemmas.List.{take-take, take-append-le, take_all, drop_at, length-take-le, take_more_set, map_push, ext_get_or, length-map, get_or-map, get_or-take, get_or-set_same, get_or-set_other}
+use Rattle.std.proofs.lemmas.List.{take-set, take-take, take-append-le, take_all, drop_at, length-take-le, take_more_set, map_push, ext_get_or, length-map, get_or-map, get_or-take, get_or-set_same, get_or-set_other}
+use borrow.Rule.Slice.PartMut.{put_mid}
+use Rattle.history.specs.declared.add.NewCommit.{NewCommit}
+use Rattle.history.specs.declared.growth.Growth.{Growth}
 use Rattle.history.specs.declared.row.CommitRow.{CommitRow}
-use Rattle.history.specs.History.{Commit, no_commit}
+use Rattle.history.specs.History.{Commit, no_commit, parent_total}
 use Rattle.history.specs.Ids.{precedes}
+use Rattle.history.specs.Computed.{Computed}
+use Rattle.history.specs.Generations.{above, root_date, levels_of, corrected_of}
 use Rattle.history.specs.Labels.{made, labels_of}
 use Rattle.history.specs.Order.{shifted, Splits}
 use Rattle.history.specs.Tables.{no_row, row_of, Inside, Earlier, Bounded, Within, Rising, Complete, commit, commits}
+use Rattle.history.proofs.Adding.{total_push}
 use Rattle.history.proofs.Chains.{labels_push}
 use Rattle.history.proofs.Ids.{neither_precedes}
 use Rattle.history.proofs.Lists.{shifted_below, shifted_at, shifted_above}
@@ -19,6 +25,16 @@ use Rattle.history.proofs.Lists.{shifted_below, shifted_at, shifted_above}
 -- the list written behind the used part
 abbrev pub behind : List ℕ → ℕ → List ℕ → List ℕ
 behind parents used list = paste parents used list (length list)
+
+-- as copying it there leaves the table
+pub copied : (used : ℕ) (parents list written : List ℕ) → written ≡ list → used + length list ≤ length parents →
+    put_mid used (used + length list - used) parents written ≡ behind parents used list
+copied used parents list written is fits = put_mid-paste used (used + length list - used) parents written list (length list) is (omega arith) refl
+
+-- the row of a new commit
+abbrev pub new_row : {L : Type 0} → NewCommit → Growth L → ℕ → CommitRow
+new_row new growth used =
+    record { id = new.id; tree = new.tree; date = new.date; level = growth.level; corrected = growth.corrected; from = used; size = length new.parents.now }
 
 module _ (parents : List ℕ) (used : ℕ) (list : List ℕ) (fits : used + length list ≤ length parents) where
   front : (j : ℕ) → j ≤ used → take j (behind parents used list) ≡ take j parents
@@ -49,6 +65,27 @@ module _ (parents : List ℕ) (used : ℕ) (list : List ℕ) (fits : used + leng
   getD_new j lt =
       sym (get_or-between (behind parents used list) used (used + length list) j 0 (omega arith)) ∙ ap (λ l. get_or l j 0) between_new
 
+-- the commits that the tables hold stand when parents are written behind the used ones
+pub commits_stand : (rows : List CommitRow) (count : ℕ) → count ≤ length rows → (parents : List ℕ) (used : ℕ) (list : List ℕ) → used + length list ≤ length parents →
+    Inside rows count used → commits rows (behind parents used list) count ≡ commits rows parents count
+commits_stand rows count rowed parents used list fits inside =
+    let p = behind parents used list in
+    let long = length-take-le count rows rowed in
+    ext_get_or no_commit _ _ (length-map (take count rows) (commit p) ∙ sym (length-map (take count rows) (commit parents)))
+    (λ k lt.
+    let lt' : k < length (take count rows) = omega (arith, length-map (take count rows) (commit p)) in
+    let r = get_or (take count rows) k no_row in
+    let is = get_or-take count rows k no_row (omega arith) in
+    get_or-map (commit p) (take count rows) k no_row no_commit lt'
+    ∙ ap (λ l. record { id = r.id.bytes; tree = r.tree.bytes; date = r.date; parents = l })
+    (between_old parents used list fits r.from (r.from + r.size) (subst (λ x. x.from + x.size ≤ used) (sym is) (inside k (omega arith))))
+    ∙ sym (get_or-map (commit parents) (take count rows) k no_row no_commit lt'))
+
+pub earlier_stands : (rows : List CommitRow) (count : ℕ) (parents : List ℕ) (used : ℕ) (list : List ℕ) → used + length list ≤ length parents →
+    Inside rows count used → Earlier rows parents count → Earlier rows (behind parents used list) count
+earlier_stands rows count parents used list fits inside earlier k j lt q =
+    subst (λ x. x < k) (sym (getD_old parents used list fits ((row_of rows k).from + j) (omega (arith, inside k lt)))) (earlier k j lt q)
+
 -- a row of the table once one more is written
 module _ (rows : List CommitRow) (count : ℕ) (row : CommitRow) (room : count < length rows) where
   pub row_new : row_of (set rows count row) count ≡ row
@@ -57,13 +94,17 @@ module _ (rows : List CommitRow) (count : ℕ) (row : CommitRow) (room : count <
   pub row_old : (k : ℕ) → k < count → row_of (set rows count row) k ≡ row_of rows k
   row_old k lt = get_or-set_other rows count k row no_row (λ e. omega arith)
 
+  -- what holds of the old rows still does
+  pub rows_stand : (P : ℕ → CommitRow → Type 0) → ((k : ℕ) → k < count → P k (row_of rows k)) → (k : ℕ) → k < count → P k (row_of (set rows count row) k)
+  rows_stand P old k lt = subst (P k) (sym (row_old k lt)) (old k lt)
+
   -- what holds of the old rows and of the new one holds of all
   pub rows_push : (P : ℕ → CommitRow → Type 0) → ((k : ℕ) → k < count → P k (row_of rows k)) → P count row →
       (k : ℕ) → k < count + 1 → P k (row_of (set rows count row) k)
   rows_push P old new k lt =
       ⊎_elim
       (λ e. subst (λ i. P i (row_of (set rows count row) i)) (sym e) (subst (P count) (sym row_new) new))
-      (λ ne. let l : k < count = omega arith in subst (P k) (sym (row_old k l)) (old k l))
+      (λ ne. rows_stand P old k (omega arith))
       (cases_eq k count)
 
   -- a column of the table, with the new row's entry
@@ -76,21 +117,10 @@ module _ (rows : List CommitRow) (count : ℕ) (row : CommitRow) (room : count <
         ≡ commits rows parents count ++ (record { id = row.id.bytes; tree = row.tree.bytes; date = row.date; parents = list } ∷ [])
     commits_push =
         let p = behind parents used list in
-        let long = length-take-le count rows (omega arith) in
         let new : between row.from (row.from + row.size) p ≡ list =
         ap₂ (λ a b. between a (a + b) p) from_is size_is ∙ between_new parents used list fits in
-        let same : map (commit p) (take count rows) ≡ map (commit parents) (take count rows) =
-        ext_get_or no_commit _ _ (length-map (take count rows) (commit p) ∙ sym (length-map (take count rows) (commit parents)))
-        (λ k lt.
-        let lt' : k < length (take count rows) = omega (arith, length-map (take count rows) (commit p)) in
-        let r = get_or (take count rows) k no_row in
-        let is = get_or-take count rows k no_row (omega arith) in
-        get_or-map (commit p) (take count rows) k no_row no_commit lt'
-        ∙ ap (λ l. record { id = r.id.bytes; tree = r.tree.bytes; date = r.date; parents = l })
-        (between_old parents used list fits r.from (r.from + r.size) (subst (λ x. x.from + x.size ≤ used) (sym is) (inside k (omega arith))))
-        ∙ sym (get_or-map (commit parents) (take count rows) k no_row no_commit lt')) in
         column_push (commit p)
-        ∙ ap₂ (λ a b. a ++ (record { id = row.id.bytes; tree = row.tree.bytes; date = row.date; parents = b } ∷ [])) same new
+        ∙ ap₂ (λ a b. a ++ (record { id = row.id.bytes; tree = row.tree.bytes; date = row.date; parents = b } ∷ [])) (commits_stand rows count (omega arith) parents used list fits inside) new
 
     pub inside_push : Inside (set rows count row) (count + 1) (used + length list)
     inside_push = rows_push (λ _ r. r.from + r.size ≤ used + length list) (λ k lt. omega (arith, inside k lt)) (omega arith)
@@ -98,7 +128,7 @@ module _ (rows : List CommitRow) (count : ℕ) (row : CommitRow) (room : count <
     pub earlier_push : Earlier rows parents count → ((j : ℕ) → j < length list → get_or list j 0 < count) → Earlier (set rows count row) (behind parents used list) (count + 1)
     earlier_push earlier held k j lt =
         rows_push (λ i r. (j : ℕ) → j < r.size → get_or (behind parents used list) (r.from + j) 0 < i)
-        (λ i l j q. subst (λ x. x < i) (sym (getD_old parents used list fits ((row_of rows i).from + j) (omega (arith, inside i l)))) (earlier i j l q))
+        (λ i l j q. earlier_stands rows count parents used list fits inside earlier i j l q)
         (λ j q.
         let q' : j < length list = omega arith in
         subst (λ x. x < count) (sym (ap (λ a. get_or (behind parents used list) (a + j) 0) from_is ∙ getD_new parents used list fits j q')) (held j q'))
@@ -112,6 +142,44 @@ pub labels_more : {L : Type 0} (start : ℕ → ℕ → L) (grown : L → L → 
     after ≡ ls ++ (x ∷ []) → ls ≡ labels_of start grown h → x ≡ made start grown ls c.date c.parents → after ≡ labels_of start grown (h ++ (c ∷ []))
 labels_more start grown h c ls after x pushed e is =
     pushed ∙ ap₂ (λ a b. a ++ (b ∷ [])) e (is ∙ ap (λ l. made start grown l c.date c.parents) e) ∙ sym (labels_push start grown [] h c)
+
+-- the commits that the tables hold stand when parents and then a row are written behind the used parts
+pub history_stands : (rows : List CommitRow) (count : ℕ) (row : CommitRow) → count ≤ length rows → (parents : List ℕ) (used : ℕ) (list : List ℕ) → used + length list ≤ length parents →
+    Inside rows count used → commits (set rows count row) (behind parents used list) count ≡ commits rows parents count
+history_stands rows count row rowed parents used list fits inside =
+    ap (map (commit (behind parents used list))) (take-set rows count row) ∙ commits_stand rows count rowed parents used list fits inside
+
+-- and what they hold beside them
+pub computed_stands : {L : Type 0} {start : ℕ → ℕ → L} {grown : L → L → L} {h h' : List Commit} {rows : List CommitRow} {ls : List L} {count used : ℕ} →
+    Computed start grown h rows ls count used → (row : CommitRow) → h' ≡ h → Computed start grown h' (set rows count row) ls count used
+computed_stands {start = start} {grown = grown} {rows = rows} {count = count} s row e = record {
+  labels = s.labels ∙ ap (labels_of start grown) (sym e);
+  levels = ap (map (λ r. r.level)) (take-set rows count row) ∙ s.levels ∙ ap levels_of (sym e);
+  corrected = ap (map (λ r. r.corrected)) (take-set rows count row) ∙ s.corrected ∙ ap corrected_of (sym e);
+  total = s.total ∙ ap parent_total (sym e);
+}
+
+-- what the tables hold beside the commits, with one commit more
+module _ {L : Type 0} {start : ℕ → ℕ → L} {grown : L → L → L} {h : List Commit} {rows : List CommitRow} {ls : List L} {count used : ℕ} (s : Computed start grown h rows ls count used)
+    (c : Commit) (row : CommitRow) (label : L) (room : count < length rows) (label_room : count < length ls) where
+  pub computed_push : row.level ≡ made (λ _ _. 1) above (map (λ r. r.level) (take count rows)) c.date c.parents →
+      row.corrected ≡ made (λ _ d. root_date d) above (map (λ r. r.corrected) (take count rows)) c.date c.parents →
+      label ≡ made start grown (take count ls) c.date c.parents →
+      Computed start grown (h ++ (c ∷ [])) (set rows count row) (set ls count label) (count + 1) (used + length c.parents)
+  computed_push level corrected is = record {
+    labels = labels_more start grown h c (take count ls) _ label (take_more_set ls count label label_room) s.labels is;
+    levels = labels_more (λ _ _. 1) above h c (map (λ r. r.level) (take count rows)) _ row.level (column_push rows count row room (λ r. r.level)) s.levels level;
+    corrected = labels_more (λ _ d. root_date d) above h c (map (λ r. r.corrected) (take count rows)) _ row.corrected (column_push rows count row room (λ r. r.corrected)) s.corrected corrected;
+    total = omega (arith, s.total, total_push h c);
+  }
+
+-- the number written behind the used part of the order by id
+pub within_behind : (order : List ℕ) (n : ℕ) → n < length order → Within order n → Within (set order n n) (n + 1)
+within_behind order n room within i lt =
+    ⊎_elim
+    (λ e. subst (λ j. get_or (set order n n) j 0 < n + 1) (sym e) (omega (arith, get_or-set_same order n n 0 room)))
+    (λ ne. omega (arith, get_or-set_other order n i n 0 (λ e. omega arith), within i (omega arith)))
+    (cases_eq i n)
 
 -- the order by id once the new commit's number stands at its place
 module _ (rows : List CommitRow) (order next : List ℕ) (count place : ℕ) (row : CommitRow) (room : count < length rows) (among : place ≤ count)

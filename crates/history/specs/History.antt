@@ -44,6 +44,14 @@ find_from n (c ∷ h) id = cond (same c.id id) (Some n) (find_from (suc n) h id)
 abbrev pub find_id : List Commit → List ℕ → Option ℕ
 find_id h id = find_from 0 h id
 
+-- what every list of commits in the tables keeps, whatever their ids are: parents come before their children, dates have at most 34 bits, a commit has at
+-- most 64 parents, ids have 20 bytes
+pub record Proper (h : List Commit) : Type 0 where
+  pub falling : (a p : ℕ) → Parent h a p → p < a
+  pub dated : (a : ℕ) → (commit_of h a).date ≤ 17179869183
+  pub few : (a : ℕ) → length (parents_of h a) ≤ 64
+  pub wide : (a : ℕ) → a < length h → (length (commit_of h a).id ≡ 20) × (length (commit_of h a).tree ≡ 20)
+
 -- what every history keeps: parents come before their children, dates have at most 34 bits, a commit has at most 64 parents, ids have 20 bytes and differ
 pub record Wellformed (h : List Commit) : Type 0 where
   pub falling : (a p : ℕ) → Parent h a p → p < a

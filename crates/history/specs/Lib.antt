@@ -2,6 +2,7 @@ pub mod Ids
 pub mod History
 pub mod Labels
 pub mod Generations
+pub mod Computed
 pub mod FaultNumbers
 pub mod Refusals
 pub mod Tables

@@ -1,5 +1,7 @@
 -- The reference model of a history: its commits and the two capacities. Assumes nothing.
-use Rattle.std.specs.Prelude.{ℕ, ◌+◌, min, Bool, true, cond, ◌&&◌, List, [], ◌∷◌, ◌++◌, length, is_some, Some, None, Ok, Err, Option, Result, nat_le, nat_lt}
+use Rattle.std.specs.Prelude.{ℕ, ◌+◌, min, Bool, cond, List, [], ◌∷◌, ◌++◌, length, is_some, Some, None, Ok, Err, Option, Result, nat_le, nat_lt}
+use Rattle.std.specs.List.{list_all}
+use Rattle.history.specs.declared.object_id.ObjectId.{ObjectId}
 use Rattle.history.specs.declared.refusal.Refusal.{Refusal}
 use Rattle.history.specs.declared.refusal.Refusal.TheVariants.{DateTooLate, TooManyParents, ParentNotHeld, IdHeld, CapacityPassed, ParentCapacityPassed}
 use Rattle.history.specs.History.{Commit, find_id, parent_total}
@@ -14,6 +16,10 @@ abbrev pub opened : ℕ → ℕ → ℕ → ℕ → Model
 opened rows labels order parents =
     record { commits = []; capacity = min (min rows labels) (min order 65536); parent_capacity = min parents 262144 }
 
+-- a commit as it is given
+abbrev pub commit_given : ObjectId → ObjectId → ℕ → List ℕ → Commit
+commit_given id tree date parents = record { id = id.bytes; tree = tree.bytes; date = date; parents = parents }
+
 -- one commit more, at the end
 abbrev pub plus : Model → Commit → Model
 plus m c = record { commits = m.commits ++ (c ∷ []); capacity = m.capacity; parent_capacity = m.parent_capacity }
@@ -23,8 +29,7 @@ refused_with (Ok x) = None
 refused_with (Err e) = Some e
 
 abbrev pub all_below : List ℕ → ℕ → Bool
-all_below [] n = true
-all_below (p ∷ ps) n = nat_lt p n && all_below ps n
+all_below ps n = list_all (λ p. nat_lt p n) ps
 
 -- why a commit cannot be added, tested in this order
 abbrev pub add_refusal : Model → Commit → Option Refusal

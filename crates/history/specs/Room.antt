@@ -1,8 +1,15 @@
 -- When a commit fits, and which entries of the tables change when it is added. Assumes nothing.
 use Rattle.std.specs.Prelude.{◌≡◌, ℕ, ◌+◌, ◌<◌, ◌≤◌, List, length, take, drop, slice_index}
+use Rattle.history.specs.declared.add.NewCommit.{NewCommit}
+use Rattle.history.specs.History.{Commit}
+use Rattle.history.specs.Model.{commit_given}
 use Rattle.labels.specs.declared.kind.LabelKind.{Ghosts}
 use Rattle.history.specs.declared.graph.CommitGraph.{CommitGraph}
 use Rattle.history.specs.Graph.{capacity, parent_capacity}
+
+-- the commit that is to be written
+abbrev pub given : NewCommit → Commit
+given new = commit_given new.id new.tree new.date new.parents.now
 
 pub record Fits {K L : Type 0} {kind : Ghosts K L} (g : CommitGraph K L kind) (date : ℕ) (parents : List ℕ) : Type 0 where
   pub dated : date ≤ 17179869183
@@ -20,18 +27,18 @@ pub record Outside {X : Type 0} (old new : List X) (from to : ℕ) : Type 0 wher
 pub record Appended {K L : Type 0} {kind : Ghosts K L} (old new : CommitGraph K L kind) (size : ℕ) : Type 0 where
   pub count : new.count ≡ old.count + 1
   pub used : new.used ≡ old.used + size
-  pub rows : Outside old.rows.items.now new.rows.items.now old.count (old.count + 1)
-  pub labels : Outside old.labels.items.now new.labels.items.now old.count (old.count + 1)
-  pub order : Outside old.order.items.now new.order.items.now 0 (old.count + 1)
-  pub parents : Outside old.parents.items.now new.parents.items.now old.used (old.used + size)
+  pub rows : Outside old.rows.now new.rows.now old.count (old.count + 1)
+  pub labels : Outside old.labels.now new.labels.now old.count (old.count + 1)
+  pub order : Outside old.order.now new.order.now 0 (old.count + 1)
+  pub parents : Outside old.parents.now new.parents.now old.used (old.used + size)
 
 -- the order by id written anew: all else stands
 pub record Reordered {K L : Type 0} {kind : Ghosts K L} (old new : CommitGraph K L kind) (list : List ℕ) : Type 0 where
   pub count : new.count ≡ old.count
   pub used : new.used ≡ old.used
-  pub rows : new.rows.items.now ≡ old.rows.items.now
-  pub labels : new.labels.items.now ≡ old.labels.items.now
-  pub parents : new.parents.items.now ≡ old.parents.items.now
-  pub order : take old.count new.order.items.now ≡ list
-  pub behind : drop old.count new.order.items.now ≡ drop old.count old.order.items.now
-  pub long : length new.order.items.now ≡ length old.order.items.now
+  pub rows : new.rows.now ≡ old.rows.now
+  pub labels : new.labels.now ≡ old.labels.now
+  pub parents : new.parents.now ≡ old.parents.now
+  pub order : take old.count new.order.now ≡ list
+  pub behind : drop old.count new.order.now ≡ drop old.count old.order.now
+  pub long : length new.order.now ≡ length old.order.now

@@ -1,10 +1,9 @@
 // Adding a commit.
-ghost use Rattle.std.specs.Prelude.{◌≡◌, ℕ, ◌+◌, ◌≤◌, true, List, length, is_ok, None, MatchResult};
-ghost use Rattle.history.specs.Graph.{Filled, Represents, capacity, parent_capacity};
-ghost use Rattle.history.specs.History.{find_id};
-ghost use Rattle.history.specs.Model.{Model, all_below, add_refusal, add_reply, after_add, refused_with, plus};
+ghost use Rattle.std.specs.Prelude.{◌≡◌, ◌≤◌, true, length, is_ok, MatchResult};
+ghost use Rattle.history.specs.Graph.{Represents, FilledWith, capacity, parent_capacity};
+ghost use Rattle.history.specs.Model.{Model, all_below, add_refusal, add_reply, after_add, commit_given, refused_with};
 ghost use Rattle.history.specs.Order.{Placed};
-ghost use Rattle.history.specs.Room.{Fits, Appended};
+ghost use Rattle.history.specs.Room.{Fits, Appended, given};
 
 use crate::graph::CommitGraph;
 use crate::object_id::ObjectId;
@@ -20,15 +19,20 @@ const MOST_COMMITS: usize = 65_536;
 
 const MOST_LISTED: usize = 262_144;
 
+// A commit as it is given. The public calls take its parts one by one, as callers have them.
+#[derive(Clone, Copy)]
+struct NewCommit<'a> {
+    id: ObjectId,
+    tree: ObjectId,
+    date: u64,
+    parents: &'a [u32],
+}
+
+// Whether each parent is one of the first `count` commits.
 fn all_held(parents: &[u32], count: usize) -> bool
     ensures { result ≡ all_below parents.now count }
 {
-    for p in parents {
-        if *p as usize >= count {
-            return false;
-        }
-    }
-    true
+    parents.iter().all(|p| (*p as usize) < count)
 }
 
 impl<'a, K: LabelKind> CommitGraph<'a, K> {
@@ -47,78 +51,62 @@ impl<'a, K: LabelKind> CommitGraph<'a, K> {
         self.parents.len().min(MOST_LISTED)
     }
 
-    // Why a commit cannot be added, if it cannot.
-    fn admits(&self, id: ObjectId, date: u64, parents: &[u32]) -> Result<(), Refusal>
-        ensures refusal { (m : Model) (tree : List ℕ) → Represents K.LabelKind.start K.LabelKind.grown m self.now → refused_with result ≡ add_refusal m (record { id = id.bytes; tree = tree; date = date; parents = parents.now }) }
-        ensures fits { is_ok result ≡ true → Fits self.now date parents.now }
+    // Refuses a commit that cannot be added.
+    fn admits(&self, new: &NewCommit) -> Result<(), Refusal>
+        ensures refusal { (m : Model) → Represents K.LabelKind.start K.LabelKind.grown m self.now → refused_with result ≡ add_refusal m (given new.now) }
+        ensures fits { is_ok result ≡ true → Fits self.now new.now.date new.now.parents.now }
     {
-        if date > LATEST_DATE {
+        if new.date > LATEST_DATE {
             return Err(Refusal::DateTooLate);
         }
-        if parents.len() > MOST_PARENTS {
+        if new.parents.len() > MOST_PARENTS {
             return Err(Refusal::TooManyParents);
         }
-        if !all_held(parents, self.count) {
+        if !all_held(new.parents, self.count) {
             return Err(Refusal::ParentNotHeld);
         }
-        if let Some(_) = self.find(id) {
+        if self.find(new.id).is_some() {
             return Err(Refusal::IdHeld);
         }
         if self.count >= self.capacity() {
             return Err(Refusal::CapacityPassed);
         }
-        if self.used + parents.len() > self.parent_capacity() {
+        if self.used + new.parents.len() > self.parent_capacity() {
             return Err(Refusal::ParentCapacityPassed);
         }
         Ok(())
     }
 
     // Writes the commit behind the others, and its number into the order by id at the place.
-    fn append_at(
-        &mut self,
-        place: usize,
-        id: ObjectId,
-        tree: ObjectId,
-        date: u64,
-        parents: &[u32],
-    ) -> u32
-        requires fits { Fits self.old date parents.now }
+    fn append_at(&mut self, place: usize, new: &NewCommit) -> u32
+        requires fits { Fits self.old new.now.date new.now.parents.now }
         requires among { place ≤ self.old.count }
         ensures number { result ≡ self.old.count }
-        ensures tables { Appended self.old self.new (length parents.now) }
-        ensures filled { (m : Model) → Filled K.LabelKind.start K.LabelKind.grown m self.old → find_id m.commits id.bytes ≡ None → Filled K.LabelKind.start K.LabelKind.grown (plus m (record { id = id.bytes; tree = tree.bytes; date = date; parents = parents.now })) self.new }
-        ensures order { Placed self.old.rows.items.now self.old.order.items.now self.new.rows.items.now self.new.order.items.now self.old.count id.bytes place }
+        ensures tables { Appended self.old self.new (length new.now.parents.now) }
+        ensures filled { FilledWith K.LabelKind.start K.LabelKind.grown (given new.now) self.old self.new }
+        ensures order { Placed self.old.rows.now self.old.order.now self.new.rows.now self.new.order.now self.old.count new.now.id.bytes place }
     {
         let number = self.count;
         let used = self.used;
-        let growth = self.growth(date, parents);
-        self.order.insert(number, place, number as u32);
-        self.parents.paste(used, parents);
-        let row = CommitRow {
-            id,
-            tree,
-            date,
+        let behind = used + new.parents.len();
+        let growth = self.growth(new.date, new.parents);
+        self.parents[used..behind].copy_from_slice(new.parents);
+        self.rows[number] = CommitRow {
+            id: new.id,
+            tree: new.tree,
+            date: new.date,
             level: growth.level,
             corrected: growth.corrected,
             from: used as u32,
-            size: parents.len() as u32,
+            size: new.parents.len() as u32,
         };
-        self.rows.put(number, row);
-        self.labels.put(number, growth.label);
-        self.used = used + parents.len();
+        self.labels[number] = growth.label;
+        // counted first, and then moved to its place: the order by id holds counted commits alone
+        self.order[number] = number as u32;
+        self.used = behind;
         self.count = number + 1;
+        self.order[place..=number].rotate_right(1);
         number as u32
-    }
-
-    // Writes the commit behind the others, and its number into the order by id, where its id belongs.
-    fn append(&mut self, id: ObjectId, tree: ObjectId, date: u64, parents: &[u32]) -> u32
-        requires fits { Fits self.old date parents.now }
-        ensures number { result ≡ self.old.count }
-        ensures tables { Appended self.old self.new (length parents.now) }
-        ensures represents { (m : Model) → Represents K.LabelKind.start K.LabelKind.grown m self.old → find_id m.commits id.bytes ≡ None → Represents K.LabelKind.start K.LabelKind.grown (plus m (record { id = id.bytes; tree = tree.bytes; date = date; parents = parents.now })) self.new }
-    {
-        let place = self.place(id);
-        self.append_at(place, id, tree, date, parents)
     }
 
     // Writes the commit behind the others, and its number at the end of the order by id, which is to be put right later. Only our own crates call this.
@@ -132,26 +120,18 @@ impl<'a, K: LabelKind> CommitGraph<'a, K> {
         requires fits { Fits self.old date parents.now }
         ensures number { result ≡ self.old.count }
         ensures tables { Appended self.old self.new (length parents.now) }
-        ensures filled { (m : Model) → Filled K.LabelKind.start K.LabelKind.grown m self.old → find_id m.commits id.bytes ≡ None → Filled K.LabelKind.start K.LabelKind.grown (plus m (record { id = id.bytes; tree = tree.bytes; date = date; parents = parents.now })) self.new }
+        ensures filled { FilledWith K.LabelKind.start K.LabelKind.grown (commit_given id tree date parents.now) self.old self.new }
     {
-        let place = self.count;
-        self.append_at(place, id, tree, date, parents)
-    }
-
-    // Appends the commit unless a test refuses it.
-    fn append_if_admitted(
-        &mut self,
-        id: ObjectId,
-        tree: ObjectId,
-        date: u64,
-        parents: &[u32],
-    ) -> Result<u32, Refusal>
-        ensures reply { (m : Model) → Represents K.LabelKind.start K.LabelKind.grown m self.old → result ≡ add_reply m (record { id = id.bytes; tree = tree.bytes; date = date; parents = parents.now }) }
-        ensures represents { (m : Model) → Represents K.LabelKind.start K.LabelKind.grown m self.old → Represents K.LabelKind.start K.LabelKind.grown (after_add m (record { id = id.bytes; tree = tree.bytes; date = date; parents = parents.now })) self.new }
-        ensures tables { MatchResult result (λ _. Appended self.old self.new (length parents.now)) (λ _. self.new ≡ self.old) }
-    {
-        self.admits(id, date, parents)?;
-        Ok(self.append(id, tree, date, parents))
+        let last = self.count;
+        self.append_at(
+            last,
+            &NewCommit {
+                id,
+                tree,
+                date,
+                parents,
+            },
+        )
     }
 
     // Adds a commit at the end and answers its number, or says why it cannot be added; nothing changes then.
@@ -162,10 +142,18 @@ impl<'a, K: LabelKind> CommitGraph<'a, K> {
         date: u64,
         parents: &[u32],
     ) -> Result<u32, Refusal>
-        ensures reply { (m : Model) → Represents K.LabelKind.start K.LabelKind.grown m self.old → result ≡ add_reply m (record { id = id.bytes; tree = tree.bytes; date = date; parents = parents.now }) }
-        ensures represents { (m : Model) → Represents K.LabelKind.start K.LabelKind.grown m self.old → Represents K.LabelKind.start K.LabelKind.grown (after_add m (record { id = id.bytes; tree = tree.bytes; date = date; parents = parents.now })) self.new }
+        ensures reply { (m : Model) → Represents K.LabelKind.start K.LabelKind.grown m self.old → result ≡ add_reply m (commit_given id tree date parents.now) }
+        ensures represents { (m : Model) → Represents K.LabelKind.start K.LabelKind.grown m self.old → Represents K.LabelKind.start K.LabelKind.grown (after_add m (commit_given id tree date parents.now)) self.new }
         ensures tables { MatchResult result (λ _. Appended self.old self.new (length parents.now)) (λ _. self.new ≡ self.old) }
     {
-        self.append_if_admitted(id, tree, date, parents)
+        let new = NewCommit {
+            id,
+            tree,
+            date,
+            parents,
+        };
+        self.admits(&new)?;
+        let place = self.place(id);
+        Ok(self.append_at(place, &new))
     }
 }

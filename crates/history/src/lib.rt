@@ -2,19 +2,18 @@
 #![tactic(auto)]
 
 mod add;
+mod by_id;
 mod graph;
 mod growth;
 mod load_fault;
 mod lookup;
 mod object_id;
 mod open;
-mod order;
 mod read;
 mod refusal;
 mod reorder;
 mod row;
 mod steps;
-mod table;
 
 pub use graph::CommitGraph;
 pub use load_fault::{ChunkFault, ContainerFault, HistoryFault, LoadFault};

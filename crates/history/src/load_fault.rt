@@ -1,11 +1,12 @@
 // What is wrong with a file, by the layer that found it; each case holds the byte place, from 0, of the first byte of what is wrong.
 ghost use Rattle.std.specs.Prelude.{◌≡◌};
 ghost use Rattle.history.specs.FaultNumbers.{fault_layer, fault_cause, fault_place};
+ghost use Rattle.history.specs.declared.load_fault.LoadFault.TheVariants.{Container, Chunk, History};
 
 use std::fmt;
 
 // Layer 1: the header and the table of chunks.
-#[derive(Clone, Copy)]
+#[derive(Clone, Copy, PartialEq, Eq, Debug)]
 pub enum ContainerFault {
     // fewer bytes than any file has: the place is the file's length
     TooShort(usize),
@@ -15,7 +16,7 @@ pub enum ContainerFault {
 }
 
 // Layer 2: what the chunks hold.
-#[derive(Clone, Copy)]
+#[derive(Clone, Copy, PartialEq, Eq, Debug)]
 pub enum ChunkFault {
     WrongFanOut(usize),
     // an id that is not greater than the one before
@@ -25,19 +26,44 @@ pub enum ChunkFault {
 }
 
 // Layer 3: the history that the chunks describe.
-#[derive(Clone, Copy)]
+#[derive(Clone, Copy, PartialEq, Eq, Debug)]
 pub enum HistoryFault {
     WrongLevel(usize),
 }
 
-#[derive(Clone, Copy)]
+#[derive(Clone, Copy, PartialEq, Eq, Debug)]
 pub enum LoadFault {
     Container(ContainerFault),
     Chunk(ChunkFault),
     History(HistoryFault),
 }
 
+impl From<ContainerFault> for LoadFault {
+    ghost from_gives = { λ fault e. e ≡ Container fault };
+
+    fn from(fault: ContainerFault) -> LoadFault {
+        LoadFault::Container(fault)
+    }
+}
+
+impl From<ChunkFault> for LoadFault {
+    ghost from_gives = { λ fault e. e ≡ Chunk fault };
+
+    fn from(fault: ChunkFault) -> LoadFault {
+        LoadFault::Chunk(fault)
+    }
+}
+
+impl From<HistoryFault> for LoadFault {
+    ghost from_gives = { λ fault e. e ≡ History fault };
+
+    fn from(fault: HistoryFault) -> LoadFault {
+        LoadFault::History(fault)
+    }
+}
+
 impl LoadFault {
+    // Other programs are told the layer by its number.
     pub fn layer(self) -> u32
         ensures { result ≡ fault_layer self }
     {
@@ -48,14 +74,13 @@ impl LoadFault {
         }
     }
 
-    // The number by which the fault is told to other programs.
+    // The enum is the kind of fault; other programs are told its number.
     pub fn cause(self) -> u32
         ensures { result ≡ fault_cause self }
     {
         match self {
             LoadFault::Container(_) => 11,
-            LoadFault::Chunk(ChunkFault::WrongFanOut(_)) => 12,
-            LoadFault::Chunk(ChunkFault::UnorderedId(_)) => 12,
+            LoadFault::Chunk(ChunkFault::WrongFanOut(_) | ChunkFault::UnorderedId(_)) => 12,
             LoadFault::Chunk(ChunkFault::WrongParent(_)) => 13,
             LoadFault::History(_) => 14,
         }
@@ -65,12 +90,16 @@ impl LoadFault {
         ensures { result ≡ fault_place self }
     {
         match self {
-            LoadFault::Container(ContainerFault::TooShort(place)) => place,
-            LoadFault::Container(ContainerFault::WrongHeader(place)) => place,
-            LoadFault::Container(ContainerFault::WrongContents(place)) => place,
-            LoadFault::Chunk(ChunkFault::WrongFanOut(place)) => place,
-            LoadFault::Chunk(ChunkFault::UnorderedId(place)) => place,
-            LoadFault::Chunk(ChunkFault::WrongParent(place)) => place,
+            LoadFault::Container(
+                ContainerFault::TooShort(place)
+                | ContainerFault::WrongHeader(place)
+                | ContainerFault::WrongContents(place),
+            ) => place,
+            LoadFault::Chunk(
+                ChunkFault::WrongFanOut(place)
+                | ChunkFault::UnorderedId(place)
+                | ChunkFault::WrongParent(place),
+            ) => place,
             LoadFault::History(HistoryFault::WrongLevel(place)) => place,
         }
     }

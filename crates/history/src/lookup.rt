@@ -1,5 +1,5 @@
 // Finding a commit by its id.
-ghost use Rattle.std.specs.Prelude.{◌≡◌, ◌+◌, ◌<◌, ◌≤◌, not, ◌&&◌, nat_lt, slice_index};
+ghost use Rattle.std.specs.Prelude.{◌≡◌, ◌<◌, ◌≤◌, ◌&&◌, nat_lt};
 ghost use Rattle.history.specs.Graph.{Represents};
 ghost use Rattle.history.specs.History.{find_id};
 ghost use Rattle.history.specs.Ids.{precedes};
@@ -12,34 +12,28 @@ use crate::object_id::ObjectId;
 use labels::LabelKind;
 
 impl<'a, K: LabelKind> CommitGraph<'a, K> {
+    fn id_at(&self, number: usize) -> ObjectId
+        requires { number < self.now.count }
+        ensures { result ≡ (row_of self.now.rows.now number).id }
+    {
+        self.rows[number].id
+    }
+
+    // Whether the number is a commit's, and its id comes before the other.
+    #[tactic(auto, using(crate::proofs::Ids::precedes_from_lt))]
+    fn comes_before(&self, number: u32, id: ObjectId) -> bool
+        ensures { result ≡ (nat_lt number self.now.count && precedes (row_of self.now.rows.now number).id.bytes id.bytes) }
+    {
+        let number = number as usize;
+        number < self.count && self.id_at(number) < id
+    }
+
     // How many commits have an id before this one, found by halving.
     pub fn place(&self, id: ObjectId) -> usize
         ensures within { result ≤ self.now.count }
-        ensures splits { Rising self.now.rows.items.now self.now.order.items.now self.now.count → Splits self.now.rows.items.now self.now.order.items.now self.now.count id.bytes result result }
+        ensures splits { Rising self.now.rows.now self.now.order.now self.now.count → Splits self.now.rows.now self.now.order.now self.now.count id.bytes result result }
     {
-        let mut low = 0;
-        let mut high = self.count;
-        while low < high {
-            let middle = low + (high - low) / 2;
-            let number = self.order.items[middle] as usize;
-            if self.rows.items[number].id.is_before(id) {
-                low = middle + 1;
-            } else {
-                high = middle;
-            }
-        }
-        low
-    }
-
-    // Whether there is an entry at the place in the order by id, and the id does not come before its commit's.
-    fn reaches(&self, place: usize, id: ObjectId) -> bool
-        ensures { result ≡ (nat_lt place self.now.count && not (precedes id.bytes (row_of self.now.rows.items.now (slice_index self.now.order.items.now place)).id.bytes)) }
-    {
-        if place >= self.count {
-            return false;
-        }
-        let number = self.order.items[place];
-        !id.is_before(self.rows.items[number as usize].id)
+        self.by_id().partition_point(|n| self.comes_before(*n, id))
     }
 
     // The number of the commit that has the id, or that there is none.
@@ -47,9 +41,14 @@ impl<'a, K: LabelKind> CommitGraph<'a, K> {
         ensures { (m : Model) → Represents K.LabelKind.start K.LabelKind.grown m self.now → result ≡ find_id m.commits id.bytes }
     {
         let place = self.place(id);
-        if !self.reaches(place, id) {
+        if place >= self.count {
             return None;
         }
-        Some(self.order.items[place])
+        let number = self.number_at(place);
+        if self.id_at(number as usize) == id {
+            Some(number)
+        } else {
+            None
+        }
     }
 }

@@ -5,7 +5,6 @@ ghost use Rattle.history.specs.Model.{opened};
 
 use crate::graph::CommitGraph;
 use crate::row::CommitRow;
-use crate::table::Table;
 use labels::LabelKind;
 
 impl<'a, K: LabelKind> CommitGraph<'a, K> {
@@ -16,13 +15,9 @@ impl<'a, K: LabelKind> CommitGraph<'a, K> {
         order: &'a mut [u32],
         parents: &'a mut [u32],
     ) -> CommitGraph<'a, K>
-        ensures tables { (result.rows.items.now ≡ rows.old) × (result.labels.items.now ≡ labels.old) × (result.order.items.now ≡ order.old) × (result.parents.items.now ≡ parents.old) }
+        ensures tables { (result.rows.now ≡ rows.old) × (result.labels.now ≡ labels.old) × (result.order.now ≡ order.old) × (result.parents.now ≡ parents.old) }
         ensures empty { Represents K.LabelKind.start K.LabelKind.grown (opened (length rows.old) (length labels.old) (length order.old) (length parents.old)) result }
     {
-        let rows = Table::over(rows);
-        let labels = Table::over(labels);
-        let order = Table::over(order);
-        let parents = Table::over(parents);
         CommitGraph {
             rows,
             labels,

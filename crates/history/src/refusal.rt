@@ -5,7 +5,7 @@ ghost use Rattle.std.specs.Option.{option_to_list};
 
 use std::fmt;
 
-#[derive(Clone, Copy)]
+#[derive(Clone, Copy, PartialEq, Eq, Debug)]
 pub enum Refusal {
     // the date is over 17,179,869,183
     DateTooLate,
@@ -28,7 +28,7 @@ pub enum Refusal {
 }
 
 impl Refusal {
-    // The number by which a refusal is told to other programs.
+    // The enum is the kind of refusal; other programs are told its number.
     pub fn number(self) -> u32
         ensures { result ≡ refusal_number self }
     {
@@ -44,23 +44,14 @@ impl Refusal {
             Refusal::CommitNotHeld => 9,
         }
     }
-}
 
-impl Refusal {
     // The length that would have been enough, where the refusal carries one.
     pub fn needed(self) -> Option<usize>
         ensures { option_to_list result ≡ refusal_values self }
     {
         match self {
             Refusal::ResultTooShort(needed) => Some(needed),
-            Refusal::DateTooLate
-            | Refusal::TooManyParents
-            | Refusal::ParentNotHeld
-            | Refusal::IdHeld
-            | Refusal::CapacityPassed
-            | Refusal::ParentCapacityPassed
-            | Refusal::BufferTooShort
-            | Refusal::CommitNotHeld => None,
+            _ => None,
         }
     }
 }

@@ -14,8 +14,8 @@ impl<'a, K: LabelKind> CommitGraph<'a, K> {
         requires long { length order.now ≡ self.old.count }
         requires held { (i : ℕ) → i < self.old.count → slice_index order.now i < self.old.count }
         ensures tables { Reordered self.old self.new order.now }
-        ensures represents { (m : Model) → Filled K.LabelKind.start K.LabelKind.grown m self.old → Rising self.old.rows.items.now order.now self.old.count → Complete order.now self.old.count → Represents K.LabelKind.start K.LabelKind.grown m self.new }
+        ensures represents { (m : Model) → Filled K.LabelKind.start K.LabelKind.grown m self.old → Rising self.old.rows.now order.now self.old.count → Complete order.now self.old.count → Represents K.LabelKind.start K.LabelKind.grown m self.new }
     {
-        self.order.paste(0, order);
+        self.order[..self.count].copy_from_slice(order);
     }
 }

@@ -7,11 +7,11 @@ use crate::step::Step;
 pub struct ByteLevel;
 
 impl Step for ByteLevel {
+    ghost TOP = { byte_level_top };
+
     const TOP: u64 = 255;
 
     type Number = u8;
-
-    ghost top = { byte_level_top };
 
     ghost value = { λ x. x };
 
@@ -25,10 +25,6 @@ impl Step for ByteLevel {
 
     fn first(_number: u32, _date: u64) -> u8 {
         1
-    }
-
-    fn most() -> u64 {
-        Self::TOP
     }
 
     fn widen(x: u8) -> u64 {

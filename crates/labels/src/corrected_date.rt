@@ -7,11 +7,11 @@ use crate::step::Step;
 pub struct CorrectedDate;
 
 impl Step for CorrectedDate {
+    ghost TOP = { corrected_date_top };
+
     const TOP: u64 = 9_223_372_036_854_775_807;
 
     type Number = u64;
-
-    ghost top = { corrected_date_top };
 
     ghost value = { λ x. x };
 
@@ -25,10 +25,6 @@ impl Step for CorrectedDate {
 
     fn first(_number: u32, date: u64) -> u64 {
         date
-    }
-
-    fn most() -> u64 {
-        Self::TOP
     }
 
     fn widen(x: u64) -> u64 {

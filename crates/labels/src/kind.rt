@@ -1,5 +1,6 @@
 // What a label kind is: labels that tell, of two commits, when one surely does not reach the other.
 ghost use Rattle.std.specs.Prelude.{◌≡◌, ℕ, Bool, true};
+ghost use Rattle.labels.specs.Laws.{Laws};
 
 pub trait LabelKind {
     type Label: Copy + Drop;
@@ -27,4 +28,7 @@ pub trait LabelKind {
     ghost over: { (x p : Self.Label) → allows (grown x p) p ≡ true };
 
     ghost kept: { (x p q : Self.Label) → allows x q ≡ true → allows (grown x p) q ≡ true };
+
+    // the three as one fact
+    ghost laws: { Laws grown allows } = { record { transitive = transitive; over = over; kept = kept } };
 }

@@ -7,11 +7,11 @@ use crate::step::Step;
 pub struct Level;
 
 impl Step for Level {
+    ghost TOP = { level_top };
+
     const TOP: u64 = 1_073_741_823;
 
     type Number = u32;
-
-    ghost top = { level_top };
 
     ghost value = { λ x. x };
 
@@ -25,10 +25,6 @@ impl Step for Level {
 
     fn first(_number: u32, _date: u64) -> u32 {
         1
-    }
-
-    fn most() -> u64 {
-        Self::TOP
     }
 
     fn widen(x: u32) -> u64 {

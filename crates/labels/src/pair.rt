@@ -15,11 +15,11 @@ impl<A: LabelKind, B: LabelKind> LabelKind for Pair<A, B> {
 
     ghost allows = { pair_allows A.LabelKind.allows B.LabelKind.allows };
 
-    ghost transitive = { (pair_laws (record { transitive = A.transitive; over = A.over; kept = A.kept }) (record { transitive = B.transitive; over = B.over; kept = B.kept })).transitive };
+    ghost transitive = { (pair_laws A.laws B.laws).transitive };
 
-    ghost over = { (pair_laws (record { transitive = A.transitive; over = A.over; kept = A.kept }) (record { transitive = B.transitive; over = B.over; kept = B.kept })).over };
+    ghost over = { (pair_laws A.laws B.laws).over };
 
-    ghost kept = { (pair_laws (record { transitive = A.transitive; over = A.over; kept = A.kept }) (record { transitive = B.transitive; over = B.over; kept = B.kept })).kept };
+    ghost kept = { (pair_laws A.laws B.laws).kept };
 
     fn first(number: u32, date: u64) -> (A::Label, B::Label) {
         (A::first(number, date), B::first(number, date))

@@ -19,16 +19,16 @@ module _ {K L : Type 0} {kind : Ghosts K L} (start : ℕ → ℕ → L) (grown :
   pub model_refusal : load_refusal g.count (capacity g) (parent_capacity g) file queue places ≡ load_refusal (length m.commits) m.capacity m.parent_capacity file queue places
   model_refusal =
       ap (λ n. load_refusal n (capacity g) (parent_capacity g) file queue places) (sym (represented_length start grown m g s))
-      ∙ ap₂ (λ a b. load_refusal (length m.commits) a b file queue places) s.room s.parent_room
+      ∙ ap₂ (λ a b. load_refusal (length m.commits) a b file queue places) s.filled.room s.filled.parent_room
 
   -- the file of a history for which there is room is not refused
   module _ (h : List Commit) (order : List ℕ) (e : m.commits ≡ []) (w : Wellformed h) (o : FileOrder h order) (is : file ≡ file_bytes (layout_of h order))
       (commits : length h ≤ m.capacity) (parents : parent_total h ≤ m.parent_capacity) (queues : length h ≤ queue) (numbers : length h ≤ places) where
     few : length h ≤ 65536
-    few = omega (arith, s.room)
+    few = omega (arith, s.filled.room)
 
     listed : parent_total h ≤ 262144
-    listed = omega (arith, s.parent_room)
+    listed = omega (arith, s.filled.parent_room)
 
     pub file_count : told_count file ≡ length h
     unfolding few listed

@@ -22,7 +22,7 @@ module _ {K L : Type 0} {kind : Ghosts K L} (start : ℕ → ℕ → L) (grown :
   same_long : length order ≡ g.count
   same_long = o.long ∙ filled_length start grown m g s
 
-  pub order_rises : Rising g.rows.items.now order g.count
+  pub order_rises : Rising g.rows.now order g.count
   unfolding same_long
   order_rises i j lt l =
       let full = filled_length start grown m g s in
@@ -38,17 +38,17 @@ module _ {K L : Type 0} {kind : Ghosts K L} (start : ℕ → ℕ → L) (grown :
 
 module _ {K L : Type 0} {kind : Ghosts K L} (start : ℕ → ℕ → L) (grown : L → L → L) (file : List ℕ) (g h g' : CommitGraph K L kind) (queue queue' : List ByLevel) (places places' list : List ℕ)
     (a : Admitted start grown file g h queue queue' places places') (is : list ≡ take (told_count file) places') (r : Reordered h g' list)
-    (represents : (m : Model) → Filled start grown m h → Rising h.rows.items.now list h.count → Complete list h.count → Represents start grown m g')
+    (represents : (m : Model) → Filled start grown m h → Rising h.rows.now list h.count → Complete list h.count → Represents start grown m g')
     (empty : (m : Model) → Filled start grown m g → m.commits ≡ []) where
   stands : Grown g g'
   stands =
       let t = a.tables in
       let n = r.count in
       record {
-        rows = ap₂ (λ k l. drop k l) n r.rows ∙ t.rows ∙ ap (λ k. drop k g.rows.items.now) (sym n);
-        labels = ap₂ (λ k l. drop k l) n r.labels ∙ t.labels ∙ ap (λ k. drop k g.labels.items.now) (sym n);
-        order = ap (λ k. drop k g'.order.items.now) n ∙ r.behind ∙ t.order ∙ ap (λ k. drop k g.order.items.now) (sym n);
-        parents = ap₂ (λ k l. drop k l) r.used r.parents ∙ t.parents ∙ ap (λ k. drop k g.parents.items.now) (sym r.used);
+        rows = ap₂ (λ k l. drop k l) n r.rows ∙ t.rows ∙ ap (λ k. drop k g.rows.now) (sym n);
+        labels = ap₂ (λ k l. drop k l) n r.labels ∙ t.labels ∙ ap (λ k. drop k g.labels.now) (sym n);
+        order = ap (λ k. drop k g'.order.now) n ∙ r.behind ∙ t.order ∙ ap (λ k. drop k g.order.now) (sym n);
+        parents = ap₂ (λ k l. drop k l) r.used r.parents ∙ t.parents ∙ ap (λ k. drop k g.parents.now) (sym r.used);
         row_room = ap length r.rows ∙ t.row_room;
         label_room = ap length r.labels ∙ t.label_room;
         order_room = r.long ∙ t.order_room;

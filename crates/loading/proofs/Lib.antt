@@ -4,7 +4,6 @@ pub mod Numbering
 pub mod Recording
 pub mod Ending
 pub mod Unique
-pub mod Sources
 pub mod Lists
 pub mod Progressing
 pub mod Finishing

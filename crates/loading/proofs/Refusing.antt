@@ -1,13 +1,11 @@
 -- When a load is refused, and what is known where it is not. Assumes nothing.
-use Rattle.std.proofs.Common.{◌≡◌, ℕ, ◌<◌, ◌≤◌, ◌||◌, ltb, List, Some, None, Option, sym, ap, ◌∙◌, ap₂, arith}
+use Rattle.std.proofs.Common.{◌≡◌, ℕ, ◌≤◌, ◌||◌, ltb, List, None, Option, ap, ◌∙◌, ap₂, arith}
 use Rattle.std.specs.Option.{option_map}
-use Rattle.std.proofs.lemmas.Bool.{or_parts, ltb-false, lt-ltb, le-ltb, cond-true, cond-false}
+use Rattle.std.proofs.lemmas.Bool.{or_parts, ltb-false, le-ltb, cond-false}
 use Rattle.graph_reader.specs.Bytes.{told_count}
 use Rattle.graph_reader.specs.Faults.{either}
 use Rattle.graph_reader.specs.Verdict.{file_fault, parents_in, total_of}
 use Rattle.graph_reader.proofs.Options.{either_none, mapped_none, cond_none}
-use Rattle.history.specs.declared.load_fault.LoadFault.{LoadFault}
-use Rattle.history.specs.declared.refusal.Refusal.{Refusal}
 use Rattle.history.specs.declared.refusal.Refusal.TheVariants.{CapacityPassed, ParentCapacityPassed, BufferTooShort}
 use Rattle.loading.specs.declared.refusal.LoadRefusal.{LoadRefusal}
 use Rattle.loading.specs.declared.refusal.LoadRefusal.TheVariants.{HistoryNotEmpty, FileFault, Refused}
@@ -45,22 +43,6 @@ module _ (held capacity parent_capacity : ℕ) (file : List ℕ) (queue places :
 
   abbrev rooms : Option LoadRefusal
   rooms = option_map Refused (room_refusal capacity parent_capacity (told_count file) (total_of (parents_in file)) queue places)
-
-  pub refused_held : 0 < held → Some HistoryNotEmpty ≡ verdict
-  unfolding load_refusal
-  refused_held lt = sym (cond-true _ _ _ (lt-ltb 0 held lt))
-
-  -- what the file's own verdict decides
-  pub refused_file : held ≤ 0 → (fault : Option LoadFault) → fault ≡ file_fault file → either (option_map FileFault fault) rooms ≡ verdict
-  unfolding load_refusal
-  refused_file le fault e =
-      ap (λ x. either (option_map FileFault x) rooms) e ∙ sym (cond-false _ (Some HistoryNotEmpty) _ (le-ltb 0 held le))
-
-  -- and what want of room does, where the file has no fault
-  pub refused_room : held ≤ 0 → None ≡ file_fault file → (wanting : Option Refusal) →
-      wanting ≡ room_refusal capacity parent_capacity (told_count file) (total_of (parents_in file)) queue places → option_map Refused wanting ≡ verdict
-  unfolding refused_file
-  refused_room le fine wanting e = ap (option_map Refused) e ∙ refused_file le None fine
 
   pub record Loadable : Type 0 where
     pub empty : held ≡ 0

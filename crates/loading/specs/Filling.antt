@@ -12,14 +12,14 @@ use Rattle.loading.specs.Described.{Described}
 
 -- the tables keep their lengths, and their entries behind the commits that they hold now
 pub record Grown {K L : Type 0} {kind : Ghosts K L} (old new : CommitGraph K L kind) : Type 0 where
-  pub rows : drop new.count new.rows.items.now ≡ drop new.count old.rows.items.now
-  pub labels : drop new.count new.labels.items.now ≡ drop new.count old.labels.items.now
-  pub order : drop new.count new.order.items.now ≡ drop new.count old.order.items.now
-  pub parents : drop new.used new.parents.items.now ≡ drop new.used old.parents.items.now
-  pub row_room : length new.rows.items.now ≡ length old.rows.items.now
-  pub label_room : length new.labels.items.now ≡ length old.labels.items.now
-  pub order_room : length new.order.items.now ≡ length old.order.items.now
-  pub parent_room : length new.parents.items.now ≡ length old.parents.items.now
+  pub rows : drop new.count new.rows.now ≡ drop new.count old.rows.now
+  pub labels : drop new.count new.labels.now ≡ drop new.count old.labels.now
+  pub order : drop new.count new.order.now ≡ drop new.count old.order.now
+  pub parents : drop new.used new.parents.now ≡ drop new.used old.parents.now
+  pub row_room : length new.rows.now ≡ length old.rows.now
+  pub label_room : length new.labels.now ≡ length old.labels.now
+  pub order_room : length new.order.now ≡ length old.order.now
+  pub parent_room : length new.parents.now ≡ length old.parents.now
 
 -- empty tables with room for the file's commits, and a list with room for their numbers
 pub record Roomy {K L : Type 0} {kind : Ghosts K L} (file : List ℕ) (g : CommitGraph K L kind) (places : List ℕ) : Type 0 where

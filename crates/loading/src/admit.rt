@@ -11,21 +11,22 @@ ghost use Rattle.history.specs.Room.{Appended};
 ghost use Rattle.loading.specs.Filling.{Roomy, Admitted};
 ghost use Rattle.loading.specs.Waiting.{AllWait, listed_by};
 
-use crate::checked_file::CheckedFile;
-use frontier::{ByLevel, take_out};
-use graph_reader::ParentList;
+use frontier::{ByLevel, Queue};
+use graph_reader::{GraphFile, ParentList};
 use history::CommitGraph;
 use labels::LabelKind;
 
 // The numbers that the positions of a list were given.
-fn numbers_of(list: &ParentList, places: &[u32]) -> [u32; 64]
-    requires { (j : ℕ) → j < length (listed list.now) → slice_index (listed list.now) j < length places.now }
-    ensures { take (length (listed list.now)) result ≡ map (λ q. slice_index places.now q) (listed list.now) }
+#[tactic(auto, using(std::proofs::lemmas::List::map_more))]
+fn numbers_of(positions: &[u32], places: &[u32]) -> ParentList
+    requires few { length positions.now ≤ 64 }
+    requires held { (j : ℕ) → j < length positions.now → slice_index positions.now j < length places.now }
+    ensures { listed result ≡ map (λ q. slice_index places.now q) positions.now }
 {
-    let positions = list.as_slice();
-    let mut numbers = [0u32; 64];
-    for j in 0..positions.len() {
-        numbers[j] = places[positions[j] as usize];
+    let mut numbers = ParentList::new();
+    // pushed one by one: `collect` would ask for an allocator and could fail
+    for position in positions {
+        numbers.push(places[*position as usize]);
     }
     numbers
 }
@@ -33,7 +34,7 @@ fn numbers_of(list: &ParentList, places: &[u32]) -> [u32; 64]
 // Writes the commit at a position behind the others, and notes its number.
 fn admit<K: LabelKind>(
     graph: &mut CommitGraph<'_, K>,
-    source: &CheckedFile<'_>,
+    source: &GraphFile<'_>,
     places: &mut [u32],
     position: usize,
 )
@@ -48,13 +49,13 @@ fn admit<K: LabelKind>(
     ensures tables { Appended graph.old graph.new (length (file_commit source.now.file.now position).parents) }
     ensures filled { (m : Model) → Filled K.LabelKind.start K.LabelKind.grown m graph.old → find_id m.commits (file_commit source.now.file.now position).id ≡ None → Filled K.LabelKind.start K.LabelKind.grown (plus m (renumbered places.old (file_commit source.now.file.now position))) graph.new }
 {
-    let list = source.parents(position);
-    let numbers = numbers_of(&list, places);
+    let positions = source.parents(position);
+    let numbers = numbers_of(positions.as_slice(), places);
     let number = graph.append_unordered(
         source.id(position),
         source.tree(position),
         source.date(position),
-        &numbers[0..list.len()],
+        numbers.as_slice(),
     );
     places[position] = number;
 }
@@ -62,20 +63,18 @@ fn admit<K: LabelKind>(
 // Takes out one position after another, and admits the commit there.
 pub(crate) fn admit_all<K: LabelKind>(
     graph: &mut CommitGraph<'_, K>,
-    source: &CheckedFile<'_>,
-    queue: &mut [ByLevel],
+    source: &GraphFile<'_>,
+    queue: &mut Queue<'_, ByLevel>,
     places: &mut [u32],
 )
-    requires waiting { AllWait source.now.file.now (told_count source.now.file.now) queue.old }
-    requires listed { sum_by (listed_by source.now.file.now) (take (told_count source.now.file.now) queue.old) ≡ total_of (parents_in source.now.file.now) }
+    requires all { queue.old.count ≡ told_count source.now.file.now }
+    requires waiting { AllWait source.now.file.now (told_count source.now.file.now) queue.old.entries.now }
+    requires listed { sum_by (listed_by source.now.file.now) (take (told_count source.now.file.now) queue.old.entries.now) ≡ total_of (parents_in source.now.file.now) }
     requires room { Roomy source.now.file.now graph.old places.old }
-    ensures { Admitted K.LabelKind.start K.LabelKind.grown source.now.file.now graph.old graph.new queue.old queue.new places.old places.new }
+    ensures admitted { Admitted K.LabelKind.start K.LabelKind.grown source.now.file.now graph.old graph.new queue.old.entries.now queue.new.entries.now places.old places.new }
+    ensures same_reference { queue.new.entries.ghost_name ≡ queue.old.entries.ghost_name }
 {
-    let count = source.count();
-    for number in 0..count {
-        let Some(next) = take_out(queue, count - number) else {
-            return;
-        };
+    while let Some(next) = queue.pop() {
         admit(graph, source, places, next.position as usize);
     }
 }

@@ -10,18 +10,19 @@ ghost use Rattle.loading.specs.Filling.{Roomy};
 ghost use Rattle.loading.specs.Loads.{load_reply, Loaded};
 
 use crate::admit::admit_all;
-use crate::checked_file::CheckedFile;
 use crate::queue::queue_all;
 use crate::refusal::LoadRefusal;
-use crate::room::refuse;
+use crate::room::admissible;
 use frontier::ByLevel;
+use graph_reader::GraphFile;
 use history::CommitGraph;
 use labels::LabelKind;
 
-// Admits all commits of a file for which there is room, and puts the order by id right: the file has the ids in their order.
+// Admits all commits of a file for which there is room, and puts the order by id right: the file has the ids in their order. The lent parts go on one by
+// one: a struct over them would have to say of each call that it holds the same slices.
 fn fill<K: LabelKind>(
     graph: &mut CommitGraph<'_, K>,
-    source: &CheckedFile<'_>,
+    source: &GraphFile<'_>,
     queue: &mut [ByLevel],
     places: &mut [u32],
 )
@@ -29,8 +30,8 @@ fn fill<K: LabelKind>(
     requires queue { told_count source.now.file.now ≤ length queue.old }
     ensures { Loaded K.LabelKind.start K.LabelKind.grown source.now.file.now graph.old graph.new queue.old queue.new places.old places.new }
 {
-    queue_all(source, queue);
-    admit_all(graph, source, queue, places);
+    let mut waiting = queue_all(source, queue);
+    admit_all(graph, source, &mut waiting, places);
     graph.put_order(&places[0..source.count()]);
 }
 
@@ -46,10 +47,7 @@ pub fn load<K: LabelKind>(
     ensures loaded { MatchResult result (λ _. Loaded K.LabelKind.start K.LabelKind.grown file.now graph.old graph.new queue.old queue.new places.old places.new) (λ _. (graph.new ≡ graph.old) × (queue.new ≡ queue.old) × (places.new ≡ places.old)) }
     ensures accepts { (m : Model) (h : List Commit) (order : List ℕ) → Represents K.LabelKind.start K.LabelKind.grown m graph.old → m.commits ≡ [] → Wellformed h → FileOrder h order → file.now ≡ file_bytes (layout_of h order) → length h ≤ m.capacity → parent_total h ≤ m.parent_capacity → length h ≤ length queue.old → length h ≤ length places.old → result ≡ Ok (length h) }
 {
-    if let Some(refusal) = refuse(graph, file, queue.len(), places.len()) {
-        return Err(refusal);
-    }
-    let source = CheckedFile::over(file);
+    let source = admissible(graph, file, queue.len(), places.len())?;
     fill(graph, &source, queue, places);
     Ok(source.count())
 }

@@ -1,11 +1,12 @@
 // Why a file cannot be loaded.
 ghost use Rattle.std.specs.Prelude.{◌≡◌};
 ghost use Rattle.loading.specs.Refusals.{load_refusal_number};
+ghost use Rattle.loading.specs.declared.refusal.LoadRefusal.TheVariants.{FileFault, Refused};
 
 use history::{LoadFault, Refusal};
 use std::fmt;
 
-#[derive(Clone, Copy)]
+#[derive(Clone, Copy, PartialEq, Eq, Debug)]
 pub enum LoadRefusal {
     // the history holds a commit
     HistoryNotEmpty,
@@ -25,6 +26,22 @@ impl LoadRefusal {
             LoadRefusal::FileFault(fault) => fault.cause(),
             LoadRefusal::Refused(refusal) => refusal.number(),
         }
+    }
+}
+
+impl From<LoadFault> for LoadRefusal {
+    ghost from_gives = { λ fault refusal. refusal ≡ FileFault fault };
+
+    fn from(told: LoadFault) -> LoadRefusal {
+        LoadRefusal::FileFault(told)
+    }
+}
+
+impl From<Refusal> for LoadRefusal {
+    ghost from_gives = { λ want refusal. refusal ≡ Refused want };
+
+    fn from(want: Refusal) -> LoadRefusal {
+        LoadRefusal::Refused(want)
     }
 }
 

@@ -4,38 +4,20 @@ use graph_file::write;
 use history::{CommitGraph, CommitRow, ObjectId, Refusal};
 use labels::{Level, Stepped};
 use loading::{LoadRefusal, load};
+use samples::Given;
 
 type Levels = Stepped<Level>;
 
-#[derive(Clone, Copy)]
-pub struct Given<'a> {
-    pub id: u8,
-    pub date: u64,
-    pub parents: &'a [u32],
-}
-
-// An id that begins with this byte and goes on with zeros.
+// An id that begins with this byte and goes on with zeros. Each test crate makes its own ids: what they share has no functions.
 fn id(first: u8) -> ObjectId {
     let mut bytes = [0; 20];
     bytes[0] = first;
     ObjectId { bytes }
 }
 
-fn empty_row() -> CommitRow {
-    CommitRow {
-        id: id(0),
-        tree: id(0),
-        date: 0,
-        level: 0,
-        corrected: 0,
-        from: 0,
-        size: 0,
-    }
-}
-
-// Adds the commits to an empty history and writes its file.
+// Adds the commits to an empty history and writes its file. It makes its tables itself: a history borrows them, so it cannot be handed out with them.
 pub fn write_added(commits: &[Given<'_>], file: &mut [u8]) -> Result<usize, Refusal> {
-    let mut rows = [empty_row(); 7];
+    let mut rows = [CommitRow::EMPTY; 7];
     let mut labels = [0; 7];
     let mut order = [0; 7];
     let mut parents = [0; 9];
@@ -46,13 +28,14 @@ pub fn write_added(commits: &[Given<'_>], file: &mut [u8]) -> Result<usize, Refu
     write(&graph, file)
 }
 
-// Loads a file into an empty history, and writes that history's file; answers how many commits there are, and that file's length.
+// Loads a file into an empty history, and writes that history's file; answers how many commits there are, and that file's length. It makes its tables
+// itself, as above.
 pub fn write_loaded(
     file: &[u8],
     places: &mut [u32],
     again: &mut [u8],
 ) -> Result<(usize, usize), LoadRefusal> {
-    let mut rows = [empty_row(); 7];
+    let mut rows = [CommitRow::EMPTY; 7];
     let mut labels = [0; 7];
     let mut order = [0; 7];
     let mut parents = [0; 9];
@@ -62,8 +45,6 @@ pub fn write_loaded(
         position: 0,
     };
     let count = load(&mut graph, file, &mut [entry; 7], places)?;
-    match write(&graph, again) {
-        Ok(length) => Ok((count, length)),
-        Err(refusal) => Err(LoadRefusal::Refused(refusal)),
-    }
+    let length = write(&graph, again)?;
+    Ok((count, length))
 }

@@ -1,5 +1,5 @@
 // The lists that a question is lent.
-#[derive(Clone, Copy)]
+#[derive(Clone, Copy, PartialEq, Eq)]
 pub enum Buffer {
     Results,
     Marks,

@@ -1,34 +1,42 @@
 // The label kinds that a history can be opened with, by their words.
-ghost use Rattle.std.specs.Prelude.{◌≡◌, MatchOption, ◌≢◌};
-ghost use Rattle.protocol.specs.Words.{kind_word};
+ghost use Rattle.std.specs.Prelude.{◌≡◌, ◌≢◌, IfOk, MatchResult, Some};
+ghost use Rattle.protocol.specs.Words.{kind_text, kind_word};
 
 use crate::base_kind::BaseKind;
+use crate::malformed::Malformed;
 use std::fmt;
+use std::str::FromStr;
 
-impl BaseKind {
-    pub(crate) fn from_word(word: &str) -> Option<BaseKind>
-        ensures { MatchOption result ((k : BaseKind) → word.now ≢ kind_word k) (λ k. word.now ≡ kind_word k) }
-    {
+impl FromStr for BaseKind {
+    type Err = Malformed;
+
+    ghost use Rattle.protocol.specs.declared.base_kind.BaseKind.{BaseKind};
+
+    ghost from_str_gives = { λ word r. MatchResult r (λ k. word ≡ kind_word k) (λ _. (k : BaseKind) → word ≢ kind_word k) };
+
+    fn from_str(word: &str) -> Result<BaseKind, Malformed> {
         match word {
-            "blank" => Some(BaseKind::Blank),
-            "level" => Some(BaseKind::Level),
-            "byte-level" => Some(BaseKind::ByteLevel),
-            "corrected-date" => Some(BaseKind::CorrectedDate),
-            "interval" => Some(BaseKind::Interval),
-            _ => None,
+            "blank" => Ok(BaseKind::Blank),
+            "level" => Ok(BaseKind::Level),
+            "byte-level" => Ok(BaseKind::ByteLevel),
+            "corrected-date" => Ok(BaseKind::CorrectedDate),
+            "interval" => Ok(BaseKind::Interval),
+            _ => Err(Malformed),
         }
     }
+}
 
-    pub(crate) fn word(self) -> &'static str
-        ensures { result.now ≡ kind_word self }
-    {
-        match self {
+impl fmt::Display for BaseKind {
+    ghost output = { λ k. Some (kind_word k) };
+
+    fn fmt<W: fmt::Write>(&self, f: &mut fmt::Formatter<W>) -> fmt::Result {
+        f.write_str(match *self {
             BaseKind::Blank => "blank",
             BaseKind::Level => "level",
             BaseKind::ByteLevel => "byte-level",
             BaseKind::CorrectedDate => "corrected-date",
             BaseKind::Interval => "interval",
-        }
+        })
     }
 }
 
@@ -39,27 +47,26 @@ pub enum Kind {
     Two(BaseKind, BaseKind),
 }
 
-impl Kind {
-    pub(crate) fn from_word(word: &str) -> Option<Kind> {
+impl FromStr for Kind {
+    type Err = Malformed;
+
+    ghost from_str_gives = { λ text r. IfOk r (λ k. text ≡ kind_text k) };
+
+    fn from_str(word: &str) -> Result<Kind, Malformed> {
         match word.split_once('+') {
-            Some((first, second)) => Some(Kind::Two(
-                BaseKind::from_word(first)?,
-                BaseKind::from_word(second)?,
-            )),
-            None => Some(Kind::One(BaseKind::from_word(word)?)),
+            Some((first, second)) => Ok(Kind::Two(first.parse()?, second.parse()?)),
+            None => Ok(Kind::One(word.parse()?)),
         }
     }
 }
 
 impl fmt::Display for Kind {
+    ghost output = { λ k. Some (kind_text k) };
+
     fn fmt<W: fmt::Write>(&self, f: &mut fmt::Formatter<W>) -> fmt::Result {
         match *self {
-            Kind::One(kind) => f.write_str(kind.word()),
-            Kind::Two(first, second) => {
-                let first = first.word();
-                let second = second.word();
-                write!(f, "{first}+{second}")
-            }
+            Kind::One(kind) => write!(f, "{kind}"),
+            Kind::Two(first, second) => write!(f, "{first}+{second}"),
         }
     }
 }

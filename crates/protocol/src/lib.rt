@@ -3,11 +3,12 @@
 
 mod base_kind;
 mod buffer;
-mod hex;
+mod hex_id;
 mod kind;
 mod lengths;
 mod limits;
 mod line;
+mod malformed;
 mod numbers;
 mod options;
 mod parse_error;
@@ -15,7 +16,7 @@ mod request;
 mod words;
 
 pub use base_kind::BaseKind;
-pub use hex::HexId;
+pub use hex_id::HexId;
 pub use kind::Kind;
 pub use lengths::Lengths;
 pub use limits::LONGEST_LINE;

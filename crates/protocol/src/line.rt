@@ -70,14 +70,13 @@ fn parse_write(mut words: Words<'_>, heap: Global) -> Result<Request, ParseError
 
 // The request that a line makes.
 pub fn parse(heap: Global, line: &str) -> Result<Request, ParseError> {
-    let mut rest = line.split_whitespace();
-    let Some(first) = rest.next() else {
+    let mut words = Words::of(line);
+    let Some(first) = words.first() else {
         return Ok(Request::Nothing);
     };
     if first.starts_with('#') {
         return Ok(Request::Nothing);
     }
-    let words = Words { rest, taken: 1 };
     match first {
         "open" => parse_open(words),
         "add" => parse_add(words, heap),

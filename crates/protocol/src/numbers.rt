@@ -24,8 +24,5 @@ pub fn table_length(word: &str) -> Option<usize>
     ensures { SomeIff result (IsNumeral 10 word.now × (digits_value 10 word.now ≤ 1000000)) (digits_value 10 word.now) }
 {
     let length = short_number(word)? as usize;
-    if length > LONGEST_TABLE {
-        return None;
-    }
-    Some(length)
+    Some(length).filter(|n| *n <= LONGEST_TABLE)
 }

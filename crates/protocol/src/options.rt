@@ -1,26 +1,34 @@
 // The options of a question: NAME=LENGTH, each name at most once.
-ghost use Rattle.std.specs.Prelude.{◌≡◌, MatchOption, ◌≢◌};
+ghost use Rattle.std.specs.Prelude.{◌≡◌, ◌≢◌, MatchResult};
 ghost use Rattle.protocol.specs.Buffers.{buffer_word, length_of, with_length};
 
 use crate::buffer::Buffer;
 use crate::lengths::Lengths;
+use crate::malformed::Malformed;
 use crate::numbers::table_length;
 use crate::parse_error::{ParseError, Part};
+use std::str::FromStr;
 
-impl Buffer {
-    fn from_word(word: &str) -> Option<Buffer>
-        ensures { MatchOption result ((b : Buffer) → word.now ≢ buffer_word b) (λ b. word.now ≡ buffer_word b) }
-    {
+impl FromStr for Buffer {
+    type Err = Malformed;
+
+    ghost use Rattle.protocol.specs.declared.buffer.Buffer.{Buffer};
+
+    ghost from_str_gives = { λ word r. MatchResult r (λ b. word ≡ buffer_word b) (λ _. (b : Buffer) → word ≢ buffer_word b) };
+
+    fn from_str(word: &str) -> Result<Buffer, Malformed> {
         match word {
-            "results" => Some(Buffer::Results),
-            "marks" => Some(Buffer::Marks),
-            "queue" => Some(Buffer::Queue),
-            _ => None,
+            "results" => Ok(Buffer::Results),
+            "marks" => Ok(Buffer::Marks),
+            "queue" => Ok(Buffer::Queue),
+            _ => Err(Malformed),
         }
     }
+}
 
-    fn part(self) -> Part {
-        match self {
+impl From<Buffer> for Part {
+    fn from(buffer: Buffer) -> Part {
+        match buffer {
             Buffer::Results => Part::Results,
             Buffer::Marks => Part::Marks,
             Buffer::Queue => Part::Queue,
@@ -28,6 +36,7 @@ impl Buffer {
     }
 }
 
+// By list, twice: one method that lent the field as `&mut` would need a contract on what the caller leaves there.
 impl Lengths {
     fn of(self, buffer: Buffer) -> Option<usize>
         ensures { result ≡ length_of self buffer }
@@ -39,31 +48,13 @@ impl Lengths {
         }
     }
 
-    fn with(self, buffer: Buffer, length: usize) -> Lengths
-        ensures { result ≡ with_length self buffer length }
+    fn set(&mut self, buffer: Buffer, length: usize)
+        ensures { self.new ≡ with_length self.old buffer length }
     {
-        let length = Some(length);
-        let Lengths {
-            results,
-            marks,
-            queue,
-        } = self;
         match buffer {
-            Buffer::Results => Lengths {
-                results: length,
-                marks,
-                queue,
-            },
-            Buffer::Marks => Lengths {
-                results,
-                marks: length,
-                queue,
-            },
-            Buffer::Queue => Lengths {
-                results,
-                marks,
-                queue: length,
-            },
+            Buffer::Results => self.results = Some(length),
+            Buffer::Marks => self.marks = Some(length),
+            Buffer::Queue => self.queue = Some(length),
         }
     }
 }
@@ -72,50 +63,37 @@ impl Lengths {
 #[derive(Clone, Copy)]
 pub struct Options {
     pub lengths: Lengths,
-    // whether the length of the results is one of them
+    // whether the length of the results is one of them: a flag, since questions differ in nothing else
     pub has_results: bool,
-    pub is_empty: bool,
 }
 
 impl Options {
     pub fn none(has_results: bool) -> Options {
         Options {
-            lengths: Lengths {
-                results: None,
-                marks: None,
-                queue: None,
-            },
+            lengths: Lengths::default(),
             has_results,
-            is_empty: true,
         }
+    }
+
+    pub fn is_empty(self) -> bool {
+        self.lengths == Lengths::default()
     }
 
     // The list that a name stands for, if the question is lent it.
     fn named(self, name: &str) -> Option<Buffer> {
-        match Buffer::from_word(name) {
-            Some(Buffer::Results) if !self.has_results => None,
-            buffer => buffer,
-        }
+        let buffer = name.parse::<Buffer>().ok();
+        buffer.filter(|b| self.has_results || *b != Buffer::Results)
     }
 
-    // The options with the one that a word sets, at its place in the line.
-    pub fn with(self, word: &str, place: usize) -> Result<Options, ParseError> {
-        let Some((name, value)) = word.split_once('=') else {
-            return Err(ParseError::NoOption(place));
-        };
-        let Some(buffer) = self.named(name) else {
-            return Err(ParseError::NoOption(place));
-        };
+    // Sets what a word says, at its place in the line.
+    pub fn set(&mut self, place: usize, word: &str) -> Result<(), ParseError> {
+        let (name, value) = word.split_once('=').ok_or(ParseError::NoOption(place))?;
+        let buffer = self.named(name).ok_or(ParseError::NoOption(place))?;
         if self.lengths.of(buffer).is_some() {
-            return Err(ParseError::Repeated(buffer.part(), place));
+            return Err(ParseError::Repeated(buffer.into(), place));
         }
-        let Some(length) = table_length(value) else {
-            return Err(ParseError::Unreadable(buffer.part(), place));
-        };
-        Ok(Options {
-            lengths: self.lengths.with(buffer, length),
-            has_results: self.has_results,
-            is_empty: false,
-        })
+        let length = table_length(value).ok_or(ParseError::Unreadable(buffer.into(), place))?;
+        self.lengths.set(buffer, length);
+        Ok(())
     }
 }

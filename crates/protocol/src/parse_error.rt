@@ -1,10 +1,11 @@
 // Why a line is no request.
 use crate::limits::{LONGEST_LINE, LONGEST_TABLE};
-use std::alloc::AllocFailed;
+use std::alloc::{AllocError, AllocFailed};
+use std::error::Error;
 use std::fmt;
 
 // What a word of a request says.
-#[derive(Clone, Copy)]
+#[derive(Clone, Copy, Debug, PartialEq, Eq)]
 pub enum Part {
     Kind,
     Rows,
@@ -27,9 +28,9 @@ pub enum Part {
     File,
 }
 
-impl Part {
-    fn name(self) -> &'static str {
-        match self {
+impl fmt::Display for Part {
+    fn fmt<W: fmt::Write>(&self, f: &mut fmt::Formatter<W>) -> fmt::Result {
+        f.write_str(match *self {
             Part::Kind => "the label kind",
             Part::Rows => "the length of the rows",
             Part::Labels => "the length of the labels",
@@ -49,18 +50,23 @@ impl Part {
             Part::Queue => "the length of the queue",
             Part::Path => "the path",
             Part::File => "the length of the buffer",
-        }
+        })
     }
+}
 
+impl Part {
     fn form(self) -> Form {
         match self {
             Part::Kind => Form::Kind,
-            Part::Rows | Part::Labels | Part::Order | Part::Parents => Form::Number(
-                LONGEST_TABLE as u64,
-            ),
-            Part::Results | Part::Marks | Part::Queue => Form::Number(LONGEST_TABLE as u64),
+            Part::Rows
+            | Part::Labels
+            | Part::Order
+            | Part::Parents
+            | Part::Results
+            | Part::Marks
+            | Part::Queue
+            | Part::File => Form::Number(LONGEST_TABLE as u64),
             Part::Path => Form::Path,
-            Part::File => Form::Number(LONGEST_TABLE as u64),
             Part::Id | Part::Tree => Form::Id,
             Part::Date => Form::Number(u64::MAX),
             Part::Parent | Part::Number | Part::Target | Part::Tip | Part::First | Part::Second => {
@@ -93,7 +99,7 @@ impl fmt::Display for Form {
     }
 }
 
-#[derive(Clone, Copy)]
+#[derive(Clone, Copy, Debug, PartialEq, Eq)]
 pub enum ParseError {
     NotText,
     TooLong,
@@ -119,26 +125,27 @@ impl fmt::Display for ParseError {
             ParseError::UnknownRequest => f.write_str(
                 "word 1 is not open, add, find, show, contains, ahead-behind, merge-bases or write",
             ),
-            ParseError::Missing(part) => {
-                let name = part.name();
-                write!(f, "{name} is missing")
-            }
+            ParseError::Missing(part) => write!(f, "{part} is missing"),
             ParseError::Unreadable(part, place) => {
-                let name = part.name();
                 let form = part.form();
-                write!(f, "word {place}: {name} is not {form}")
+                write!(f, "word {place}: {part} is not {form}")
             }
             ParseError::Extra(place) => write!(f, "word {place} is one too many"),
             ParseError::NoOption(place) => write!(
                 f,
                 "word {place} is not an option of the request"
             ),
-            ParseError::Repeated(part, place) => {
-                let name = part.name();
-                write!(f, "word {place} sets {name} again")
-            }
+            ParseError::Repeated(part, place) => write!(f, "word {place} sets {part} again"),
             ParseError::NoMemory => f.write_str("there is no memory for the request"),
         }
+    }
+}
+
+impl Error for ParseError {}
+
+impl From<AllocError> for ParseError {
+    fn from(_e: AllocError) -> ParseError {
+        ParseError::NoMemory
     }
 }
 

@@ -16,14 +16,14 @@ pub struct Opening {
 }
 
 impl Opening {
-    // How many commits such tables take.
+    // How many commits such tables take: as a history answers it, told of the lengths before there are tables.
     pub fn capacity(self) -> usize
         ensures { result ≡ min (min self.rows self.labels) (min self.order 65536) }
     {
         self.rows.min(self.labels).min(self.order.min(65_536))
     }
 
-    // How many listed parents such tables take.
+    // How many listed parents such tables take, in the same way.
     pub fn parent_capacity(self) -> usize
         ensures { result ≡ min self.parents 262144 }
     {
@@ -64,7 +64,7 @@ pub struct Writing {
 
 #[derive(Drop)]
 pub enum Request {
-    // a blank line or a comment
+    // a blank line or a comment: a case here, since no request at all is the end of the input
     Nothing,
     Open(Opening),
     Add(Addition),

@@ -1,5 +1,5 @@
 // The words of a line, taken one after another.
-use crate::hex::object_id;
+use crate::hex_id::HexId;
 use crate::kind::Kind;
 use crate::lengths::Lengths;
 use crate::numbers::{number, short_number, table_length};
@@ -7,101 +7,90 @@ use crate::options::Options;
 use crate::parse_error::{ParseError, Part};
 use history::ObjectId;
 use std::alloc::Global;
+use std::iter::Zip;
+use std::ops::RangeFrom;
 use std::str::SplitWhitespace;
 
-// The words that are left, and how many were taken.
+// The words that are left, each with its place in the line, from 1.
 #[derive(Drop)]
-pub struct Words<'a> {
-    pub rest: SplitWhitespace<'a>,
-    pub taken: usize,
-}
+pub struct Words<'a>(Zip<RangeFrom<usize>, SplitWhitespace<'a>>);
 
 impl<'a> Words<'a> {
-    fn next(&mut self, part: Part) -> Result<&'a str, ParseError> {
-        self.taken = self.taken.saturating_add(1);
-        match self.rest.next() {
-            Some(word) => Ok(word),
-            None => Err(ParseError::Missing(part)),
-        }
+    pub fn of(line: &'a str) -> Words<'a> {
+        Words((1..).zip(line.split_whitespace()))
     }
 
-    // What a word says, where it has its form.
-    fn read<T: Drop>(&self, part: Part, value: Option<T>) -> Result<T, ParseError> {
-        value.ok_or(ParseError::Unreadable(part, self.taken))
+    pub fn first(&mut self) -> Option<&'a str> {
+        let (_, word) = self.0.next()?;
+        Some(word)
+    }
+
+    // The next word, as `read` reads it.
+    fn next<T: Drop, F: FnOnce(&str) -> Option<T>>(
+        &mut self,
+        part: Part,
+        read: F,
+    ) -> Result<T, ParseError>
+        requires { F.IsAlwaysCallable read }
+    {
+        let (place, word) = self.0.next().ok_or(ParseError::Missing(part))?;
+        read(word).ok_or(ParseError::Unreadable(part, place))
     }
 
     pub fn kind(&mut self) -> Result<Kind, ParseError> {
-        let word = self.next(Part::Kind)?;
-        self.read(Part::Kind, Kind::from_word(word))
+        self.next(Part::Kind, |word| word.parse().ok())
     }
 
     pub fn length(&mut self, part: Part) -> Result<usize, ParseError> {
-        let word = self.next(part)?;
-        self.read(part, table_length(word))
+        self.next(part, table_length)
     }
 
     pub fn id(&mut self, part: Part) -> Result<ObjectId, ParseError> {
-        let word = self.next(part)?;
-        self.read(part, object_id(word.as_bytes()))
+        let HexId(id) = self.next(part, |word| word.parse().ok())?;
+        Ok(id)
     }
 
     pub fn date(&mut self) -> Result<u64, ParseError> {
-        let word = self.next(Part::Date)?;
-        self.read(Part::Date, number(word))
+        self.next(Part::Date, number)
     }
 
     pub fn commit(&mut self, part: Part) -> Result<u32, ParseError> {
-        let word = self.next(part)?;
-        self.read(part, short_number(word))
+        self.next(part, short_number)
     }
 
     pub fn path(&mut self, heap: Global) -> Result<String, ParseError> {
-        let word = self.next(Part::Path)?;
-        match String::from_str(heap, word) {
-            Ok(path) => Ok(path),
-            Err(_) => Err(ParseError::NoMemory),
-        }
+        let (_, word) = self.0.next().ok_or(ParseError::Missing(Part::Path))?;
+        Ok(String::from_str(heap, word)?)
     }
 
     // The length that the one word left sets, if there is one.
     pub fn last_length(&mut self) -> Result<Option<usize>, ParseError> {
-        self.taken = self.taken.saturating_add(1);
-        let Some(word) = self.rest.next() else {
+        let Some((place, word)) = self.0.next() else {
             return Ok(None);
         };
-        let length = self.read(Part::File, table_length(word))?;
+        let length = table_length(word).ok_or(ParseError::Unreadable(Part::File, place))?;
         self.end()?;
         Ok(Some(length))
     }
 
     // The parents, which are all the words that are left.
     pub fn parents(self, heap: Global) -> Result<Vec<u32>, ParseError> {
-        let mut place = self.taken;
         let mut parents = Vec::new(heap);
-        for word in self.rest {
-            place = place.saturating_add(1);
-            let Some(parent) = short_number(word) else {
-                return Err(ParseError::Unreadable(Part::Parent, place));
-            };
-            parents.push(parent)?;
+        for (place, word) in self.0 {
+            parents.push(short_number(word).ok_or(ParseError::Unreadable(Part::Parent, place))?)?;
         }
         Ok(parents)
     }
 
     // The tips and then the options, which are all the words that are left.
     pub fn tips(self, heap: Global) -> Result<(Vec<u32>, Lengths), ParseError> {
-        let mut place = self.taken;
         let mut tips = Vec::new(heap);
         let mut options = Options::none(true);
-        for word in self.rest {
-            place = place.saturating_add(1);
-            if options.is_empty && !word.contains('=') {
-                let Some(tip) = short_number(word) else {
-                    return Err(ParseError::Unreadable(Part::Tip, place));
-                };
-                tips.push(tip)?;
+        for (place, word) in self.0 {
+            if options.is_empty() && !word.contains('=') {
+                tips.push(short_number(word).ok_or(ParseError::Unreadable(Part::Tip, place))?)?;
             } else {
-                options = options.with(word, place)?;
+                options.set(place, word)?;
             }
         }
         Ok((tips, options.lengths))
@@ -109,19 +98,16 @@ impl<'a> Words<'a> {
 
     // The options, which are all the words that are left.
     pub fn options(self, has_results: bool) -> Result<Lengths, ParseError> {
-        let mut place = self.taken;
         let mut options = Options::none(has_results);
-        for word in self.rest {
-            place = place.saturating_add(1);
-            options = options.with(word, place)?;
+        for (place, word) in self.0 {
+            options.set(place, word)?;
         }
         Ok(options.lengths)
     }
 
     pub fn end(&mut self) -> Result<(), ParseError> {
-        self.taken = self.taken.saturating_add(1);
-        match self.rest.next() {
-            Some(_) => Err(ParseError::Extra(self.taken)),
+        match self.0.next() {
+            Some((place, _)) => Err(ParseError::Extra(place)),
             None => Ok(()),
         }
     }

@@ -1,11 +1,11 @@
-use Rattle.std.proofs.Common.{◌+◌, ◌≤◌}
+use Rattle.std.proofs.Common.{◌<◌, length}
 use Rattle.std.specs.List.Sorted.{IsPermutation}
 use Rattle.frontier.proofs.Sifts.{Rising}
 use Rattle.frontier.proofs.heap.sift_up.Given as goal
 
 abbrev pub invariant-loop-i : goal.invariant-loop-i
 invariant-loop-i g l =
-    (l.i ≤ l.last) × IsPermutation l.initial.heap l.heap × Rising g.T.Ranked.before l.heap (l.last + 1) l.i
+    (l.i < length l.heap) × IsPermutation l.initial.heap l.heap × Rising g.T.Ranked.before l.heap (length l.heap) l.i
 
 abbrev pub decreases-loop-i : goal.decreases-loop-i
 decreases-loop-i g l = l.i

@@ -1,9 +1,8 @@
-use Rattle.std.proofs.Common.{◌+◌, arith}
+use Rattle.std.proofs.Common.{arith}
 use Rattle.graph_file.specs.Words.{long_word}
-use Rattle.graph_file.proofs.Placed.{placed_next}
+use Rattle.graph_file.proofs.Placed.{puts_next}
 use Rattle.graph_file.proofs.front.put_entry.Goals as goal
 
-pub returns : goal.returns
-returns c =
-    placed_next c.args.buffer.now c.put_bytes.new.buffer c.put_long.new.buffer c.args.at (c.args.at + 4) c.args.name.now (long_word c.args.place)
-    c.put_bytes.ensures c.put_long.ensures (omega arith) (omega arith)
+pub returns-clause-puts : goal.returns-clause-puts
+returns-clause-puts c =
+    puts_next c.args.output.now c.put_bytes.new.self c.put_long.new.self c.args.name.now (long_word c.args.place) c.put_bytes.ensures.puts (omega arith) c.put_long.ensures.puts (omega arith)

@@ -1,10 +1,12 @@
-use Rattle.std.proofs.Common.{◌≡◌, ℕ, List, take}
+use Rattle.std.proofs.Common.{◌*◌, take}
 use Rattle.std.specs.List.{flat_map}
-use Rattle.graph_file.specs.Placing.{placed, Filed, ids_of}
-use Rattle.history.specs.History.{Commit}
+use Rattle.graph_file.specs.Outputs.{Moved, Puts}
+use Rattle.graph_file.specs.Placing.{WhenFiled, ids_of}
 use Rattle.graph_file.proofs.ids.put_ids.Given as goal
 
-abbrev pub invariant-loop-place : goal.invariant-loop-place
-invariant-loop-place g l =
-    (h : List Commit) (order : List ℕ) → Filed l.graph h order →
-    l.buffer ≡ placed l.initial.buffer l.at (flat_map (λ id. id) (take l.place (ids_of h order)))
+abbrev pub invariant-loop-number : goal.invariant-loop-number
+invariant-loop-number g l =
+    record {
+      moved : Moved l.initial.output l.output (20 * l.number-index);
+      puts : WhenFiled l.graph (λ h order. Puts l.initial.output l.output (flat_map (λ id. id) (take l.number-index (ids_of h order))));
+    }

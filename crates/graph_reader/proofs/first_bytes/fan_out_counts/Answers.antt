@@ -1,7 +1,5 @@
 use Rattle.std.proofs.Common.{ℕ, ◌+◌, ◌≤◌, eqb, List, [], ◌∷◌, length, get_or, arith}
-use Rattle.std.proofs.lemmas.List.FromFn.{length-map-range_with_len}
 use Rattle.std.proofs.lemmas.Bool.{cond_both}
-use Rattle.graph_reader.specs.Bytes.{id_at, ids_in}
 use Rattle.graph_reader.specs.ChunkFaults.{begun_by}
 use Rattle.graph_reader.proofs.first_bytes.fan_out_counts.Goals as goal
 
@@ -12,7 +10,4 @@ begun_most (id ∷ ids) i =
     cond_both (eqb (get_or id 0 0) i) 1 0 (λ n. n + begun_by ids i ≤ length (id ∷ ids)) (λ _. omega arith) (λ _. omega arith)
 
 pub sum_up-requires : goal.sum_up-requires
-sum_up-requires c = λ i lt.
-    let chunk = c.args.chunk.now.bytes.now in
-    let count = c.args.count in
-    omega (arith, c.tally.ensures i lt, begun_most (ids_in chunk count) i, length-map-range_with_len (id_at chunk) 0 count, c.requires.few)
+sum_up-requires c = λ i lt. omega (arith, c.tally.ensures i lt, begun_most c.args.ids.now i, c.requires)

@@ -11,9 +11,9 @@ invariant_of-result c =
     let at = c.ids_begin-ids.result in
     let few : count ≤ 65536 = omega (arith, few_commits bytes c.requires, c.told_count-count.ensures) in
     let short : entries ≤ 262144 = omega (arith, edges_told bytes c.requires, c.told_edges-entries.ensures) in
-    let low : at ≤ 1092 = omega (arith, chunks_told bytes c.requires, c.ids_begin-ids.ensures) in
+    let low : at ≤ 1092 = omega (arith, chunks_told bytes c.requires, c.ids_begin-ids.ensures.value) in
     let filled : at + 56 * count + 4 * entries ≤ length bytes =
-    omega (arith, file_filled bytes c.requires, c.told_count-count.ensures, c.told_edges-entries.ensures, c.ids_begin-ids.ensures) in
+    omega (arith, file_filled bytes c.requires, c.told_count-count.ensures, c.told_edges-entries.ensures, c.ids_begin-ids.ensures.value) in
     record {
       few = few;
       short = short;

@@ -1,7 +1,6 @@
-use Rattle.std.proofs.Common.{◌≡◌, ℕ, ◌-◌, ◌<◌, ◌≤◌, List, map, length, get_or, take, set, None, sym, ap, ◌∙◌, subst, arith}
+use Rattle.std.proofs.Common.{◌≡◌, ℕ, ◌<◌, ◌≤◌, map, length, get_or, set, None, sym, ap, ◌∙◌, subst, arith}
 use Rattle.std.proofs.lemmas.List.{length-map, get_or-map}
 use Rattle.graph_reader.specs.FileCommits.{file_commit, renumbered}
-use Rattle.graph_reader.specs.Holding.{listed}
 use Rattle.history.specs.Graph.{Filled}
 use Rattle.history.specs.History.{Commit, find_id}
 use Rattle.history.specs.Model.{plus}
@@ -9,24 +8,12 @@ use Rattle.history.specs.Room.{Appended}
 use Rattle.loading.proofs.Lists.{same_commit}
 use Rattle.loading.proofs.admit.admit.Goals as goal
 
-pub numbers_of-numbers-requires : goal.numbers_of-numbers-requires
-numbers_of-numbers-requires g c j lt =
-    let is = c.parents-list.ensures in
-    subst (λ ps. get_or ps j 0 < length c.args.places.now) (sym is) (omega (arith, c.requires.long, c.requires.listed j (omega (arith, ap length is))))
-
--- the numbers of the parents
-its_numbers : (list numbers positions places : List ℕ) (n : ℕ) → n ≡ length list → take (length list) numbers ≡ map (λ q. get_or places q 0) list → list ≡ positions →
-    take (n - 0) numbers ≡ map (λ q. get_or places q 0) positions
-its_numbers list numbers positions places n e t is =
-    ap (λ k. take k numbers) (let z : n - 0 ≡ length list = omega arith in z) ∙ t ∙ ap (map (λ q. get_or places q 0)) is
-
 pub append_unordered-number-requires : goal.append_unordered-number-requires
-unfolding its_numbers
 append_unordered-number-requires g c =
     let file = c.args.source.now.file.now in
     let ps = (file_commit file c.args.position).parents in
     let f : ℕ → ℕ = λ q. get_or c.args.places.now q 0 in
-    let are = its_numbers (listed c.parents-list.result) c.numbers_of-numbers.result ps c.args.places.now c.len.result c.len.ensures c.numbers_of-numbers.ensures c.parents-list.ensures in
+    let are = c.as_slice-2.ensures.value ∙ c.numbers_of-numbers.ensures ∙ ap (map f) (c.as_slice.ensures.value ∙ c.parents-positions.ensures) in
     let long = ap length are ∙ length-map ps f in
     record {
       fits = record {
@@ -41,16 +28,15 @@ append_unordered-number-requires g c =
     }
 
 pub returns : goal.returns
-unfolding its_numbers
 returns g c =
     let k = g.K.LabelKind in
     let file = c.args.source.now.file.now in
     let p = c.args.position in
     let ps = (file_commit file p).parents in
     let f : ℕ → ℕ = λ q. get_or c.args.places.now q 0 in
-    let are = its_numbers (listed c.parents-list.result) c.numbers_of-numbers.result ps c.args.places.now c.len.result c.len.ensures c.numbers_of-numbers.ensures c.parents-list.ensures in
+    let are = c.as_slice-2.ensures.value ∙ c.numbers_of-numbers.ensures ∙ ap (map f) (c.as_slice.ensures.value ∙ c.parents-positions.ensures) in
     let done = c.append_unordered-number.ensures in
-    let given : Commit = record { id = c.id.result.bytes; tree = c.tree.result.bytes; date = c.date.result; parents = take (c.len.result - 0) c.numbers_of-numbers.result } in
+    let given : Commit = record { id = c.id.result.bytes; tree = c.tree.result.bytes; date = c.date.result; parents = c.as_slice-2.result.now } in
     let same : given ≡ renumbered c.args.places.now (file_commit file p) = same_commit c.id.ensures c.tree.ensures c.date.ensures are in
     record {
       places = ap (set c.args.places.now p) done.number;

@@ -1,5 +1,6 @@
-use Rattle.std.proofs.Common.{◌≡◌, ℕ, ◌<◌, length, get_or}
+use Rattle.std.proofs.Common.{◌≡◌, map, get_or, take}
+use Rattle.graph_reader.specs.Holding.{listed}
 use Rattle.loading.proofs.admit.numbers_of.Given as goal
 
-abbrev pub invariant-loop-j : goal.invariant-loop-j
-invariant-loop-j l = (length l.numbers ≡ 64) × ((k : ℕ) → k < l.j → get_or l.numbers k 0 ≡ get_or l.places (get_or l.positions k 0) 0)
+abbrev pub invariant-loop-position : goal.invariant-loop-position
+invariant-loop-position l = listed l.numbers ≡ map (λ q. get_or l.places q 0) (take l.position-index l.positions)

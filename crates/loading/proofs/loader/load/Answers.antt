@@ -1,4 +1,4 @@
-use Rattle.std.proofs.Common.{◌≤◌, length, Ok, sym, refl, ap, ◌∙◌, subst}
+use Rattle.std.proofs.Common.{◌≤◌, length, Ok, sym, ap, ◌∙◌, subst}
 use Rattle.graph_reader.specs.Bytes.{told_count}
 use Rattle.graph_reader.proofs.Options.{never_none}
 use Rattle.history.specs.Graph.{capacity, parent_capacity}
@@ -9,37 +9,24 @@ use Rattle.loading.proofs.Answering.{model_refusal, file_accepted, file_count}
 use Rattle.loading.proofs.Refusing.{loadable}
 use Rattle.loading.proofs.loader.load.Goals as goal
 
-pub over-source-requires : goal.over-source-requires
-over-source-requires g c =
-    let b = c.args.graph.now in
-    (loadable b.count (capacity b) (parent_capacity b) c.args.file.now (length c.args.queue.now) (length c.args.places.now) (sym c.in_default.ensures)).fine
-
 pub fill-requires : goal.fill-requires
 fill-requires g c =
     let b = c.args.graph.now in
-    let file = c.args.file.now in
-    let l = loadable b.count (capacity b) (parent_capacity b) file (length c.args.queue.now) (length c.args.places.now) (sym c.in_default.ensures) in
-    let is = sym c.over-source.ensures in
+    let source = c.in_ok-source in
+    let l = loadable b.count (capacity b) (parent_capacity b) c.args.file.now (length c.args.queue.now) (length c.args.places.now) (sym source.ensures.refusal) in
+    let is = sym source.ensures.same in
     record {
       room = subst (λ f. Roomy f b c.args.places.now) is
           (record { empty = l.empty; unused = b.unused l.empty; commit_room = l.room.commit_room; parent_room = l.room.parent_room; place_room = l.room.place_room });
       queue = subst (λ f. told_count f ≤ length c.args.queue.now) is l.room.queue_room;
     }
 
-pub returns-in-Some : goal.returns-in-Some
-returns-in-Some g c =
+pub returns-in_err-source-clause-accepts : goal.returns-in_err-source-clause-accepts
+returns-in_err-source-clause-accepts g c = λ m h order s e w o is a p q l.
     let k = g.K.LabelKind in
-    let b = c.args.graph.now in
-    let file = c.args.file.now in
-    let queue = length c.args.queue.now in
-    let places = length c.args.places.now in
-    let refused = c.in-Some.ensures in
-    record {
-      reply = λ m s. ap (number_or (told_count file)) (refused ∙ model_refusal k.start k.grown m b s file queue places);
-      loaded = (refl, refl, refl);
-      accepts = λ m h order s e w o is a p q l.
-          never_none c.in-Some.refusal (refused ∙ file_accepted k.start k.grown m b s file queue places h order e w o is a p q l);
-    }
+    never_none c.in_err-source.field-0.0
+    (c.in_err-source.ensures.refusal
+    ∙ file_accepted k.start k.grown m c.args.graph.now s c.args.file.now (length c.args.queue.now) (length c.args.places.now) h order e w o is a p q l)
 
 pub returns : goal.returns
 returns g c =
@@ -48,8 +35,8 @@ returns g c =
     let file = c.args.file.now in
     let queue = length c.args.queue.now in
     let places = length c.args.places.now in
-    let fine = c.in_default.ensures in
-    let same = c.over-source.ensures in
+    let fine = c.in_ok-source.ensures.refusal in
+    let same = c.in_ok-source.ensures.same in
     let count = c.count.ensures ∙ ap told_count same in
     record {
       reply = λ m s. ap Ok count ∙ ap (number_or (told_count file)) (fine ∙ model_refusal k.start k.grown m b s file queue places);

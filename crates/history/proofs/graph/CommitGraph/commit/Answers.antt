@@ -1,14 +1,12 @@
-use Rattle.std.proofs.Common.{sym, subst, arith}
+use Rattle.std.proofs.Common.{sym, ap, ◌∙◌, subst}
+use Rattle.history.specs.Graph.{history}
 use Rattle.history.specs.Reading.{Describes}
-use Rattle.history.proofs.Commits.{represented_length}
+use Rattle.history.specs.Tables.{row_of}
 use Rattle.history.proofs.Reading.{described}
 use Rattle.history.proofs.graph.CommitGraph.commit.Goals as goal
 
-pub returns-then-number-held : goal.returns-then-number-held
-returns-then-number-held g c = λ m s.
-    omega (arith, represented_length g.K.LabelKind.start g.K.LabelKind.grown m c.args.self.now s)
-
 pub returns : goal.returns
-returns g c = λ m s.
-    subst (Describes m.commits c.args.number) (sym c.row.ensures)
-    (described g.K.LabelKind.start g.K.LabelKind.grown m c.args.self.now s c.args.number (omega arith))
+returns g c =
+    let b = c.args.self.now in
+    let here = c.in_ok-number.ensures in
+    subst (Describes (history b) c.args.number) (sym (c.row_at.ensures ∙ ap (row_of b.rows.now) here.0)) (described b c.args.number here.1)

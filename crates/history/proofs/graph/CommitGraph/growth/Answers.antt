@@ -1,30 +1,18 @@
-use Rattle.std.proofs.Common.{map, get_or, take, sym, refl, ap, ◌∙◌, arith}
-use Rattle.std.proofs.lemmas.List.{get_or-take, length-take-le}
+use Rattle.std.proofs.Common.{map, get_or, take, sym, ◌∙◌, arith}
+use Rattle.std.proofs.lemmas.List.{get_or-take, get_or_default}
 use Rattle.history.specs.Generations.{above, root_date}
 use Rattle.history.specs.Tables.{no_row, row_of}
-use Rattle.history.proofs.Making.{made_more, made_all}
+use Rattle.history.proofs.Making.{made_more}
 use Rattle.history.proofs.Lists.{get_d_map_take}
 use Rattle.history.proofs.graph.CommitGraph.growth.Goals as goal
-
-pub loop-p-init : goal.loop-p-init
-loop-p-init g c =
-    let k = g.K.LabelKind in
-    let b = c.args.self.now in
-    (refl, refl, c.first-label.ensures ∙ ap (λ n. k.start n c.args.date) (sym (length-take-le b.count b.labels.items.now b.labelled)), omega arith, omega arith)
-
-pub overflow_add-parent : goal.overflow_add-parent
-overflow_add-parent g c =
-    let p = get_or c.args.parents.now c.loop-p.p-index 0 in
-    let low = c.requires.held c.loop-p.p-index c.loop-p-test.true in
-    omega (arith, (c.args.self.now.bounded p low).0)
 
 pub loop-p-preserved : goal.loop-p-preserved
 loop-p-preserved g c =
     let k = g.K.LabelKind in
     let b = c.args.self.now in
     let n = b.count in
-    let rows = b.rows.items.now in
-    let ls = b.labels.items.now in
+    let rows = b.rows.now in
+    let ls = b.labels.now in
     let ps = c.args.parents.now in
     let date = c.args.date in
     let i = c.loop-p.p-index in
@@ -38,25 +26,8 @@ loop-p-preserved g c =
     let most = b.bounded p low in (
       made_more (λ _ _. 1) above levels date ps i c.loop-p.level row.level _ lt inv.0 (sym (get_d_map_take (λ x. x.level) rows n p no_row 1 b.rowed low)) c.max-level.ensures,
       made_more (λ _ d. root_date d) above dates date ps i c.loop-p.corrected row.corrected _ lt inv.1 (sym (get_d_map_take (λ x. x.corrected) rows n p no_row date b.rowed low)) c.max-corrected.ensures,
-      made_more k.start k.grown (take n ls) date ps i c.loop-p.label c.at.result _ lt inv.2
-          (c.at.ensures _ ∙ sym (get_or-take n ls p _ low)) c.grow-label.ensures,
+      made_more k.start k.grown (take n ls) date ps i c.loop-p.label (get_or ls p c.index-self-p.result) _ lt inv.2
+          (get_or_default ls p _ _ (omega arith) ∙ sym (get_or-take n ls p _ low)) c.grow-label.ensures,
       omega (arith, c.max-level.ensures),
       omega (arith, c.max-corrected.ensures),
     )
-
-pub returns : goal.returns
-returns g c =
-    let k = g.K.LabelKind in
-    let b = c.args.self.now in
-    let n = b.count in
-    let rows = b.rows.items.now in
-    let ps = c.args.parents.now in
-    let i = c.loop-p.p-index in
-    let date = c.args.date in
-    let inv = c.loop-p.invariant in
-    record {
-      level = made_all (λ _ _. 1) above (map (λ x. x.level) (take n rows)) date ps i _ c.loop-p-test.false inv.0;
-      corrected = made_all (λ _ d. root_date d) above (map (λ x. x.corrected) (take n rows)) date ps i _ c.loop-p-test.false inv.1;
-      label = made_all k.start k.grown (take n b.labels.items.now) date ps i _ c.loop-p-test.false inv.2;
-      bounded = (inv.3, inv.4);
-    }

@@ -1,46 +1,21 @@
-use Rattle.std.proofs.Common.{◌≡◌, ◌+◌, ◌-◌, ◌/◌, ◌<◌, sym, ◌∙◌, subst, arith}
-use Rattle.history.specs.Order.{Splits}
-use Rattle.history.proofs.Finding.{splits_none, splits_up, splits_down}
+use Rattle.std.proofs.Common.{◌≡◌, true, false, length, sym, ap, subst, rules, tests, arith}
+use Rattle.std.proofs.lemmas.List.{length-take-le}
+use Rattle.std.specs.List.Sorted.{IsPartitionPoint, IsPartitionedBy}
+use Rattle.std.proofs.lemmas.List.Sorted.{IsPartitionPoint-from_clause}
+use Rattle.history.proofs.Finding.{comes, parted, splits_at}
 use Rattle.history.proofs.graph.CommitGraph.place.Goals as goal
 
-pub loop-low-init : goal.loop-low-init
-loop-low-init g c =
+pub returns-clause-splits : goal.returns-clause-splits
+returns-clause-splits g c = λ rising.
     let b = c.args.self.now in
-    (omega arith, omega arith, λ rising. splits_none b.rows.items.now b.order.items.now b.count c.args.id.bytes rising)
-
-pub loop-low-preserved-then-is_before : goal.loop-low-preserved-then-is_before
-loop-low-preserved-then-is_before g c =
-    let b = c.args.self.now in
-    let low = c.loop-low.low in
-    let high = c.loop-low.high in
-    let middle = low + (high - low) / 2 in
-    let up : middle < high = omega arith in (
-      omega arith,
-      omega arith,
-      λ rising.
-          splits_up b.rows.items.now b.order.items.now b.count c.args.id.bytes rising low high middle (omega arith) up (omega arith)
-          (sym c.is_before.ensures ∙ c.if-is_before.true) (c.loop-low.invariant.2 rising),
-    )
-
-pub loop-low-preserved : goal.loop-low-preserved
-loop-low-preserved g c =
-    let b = c.args.self.now in
-    let low = c.loop-low.low in
-    let high = c.loop-low.high in
-    let middle = low + (high - low) / 2 in
-    let up : middle < high = omega arith in (
-      omega arith,
-      omega arith,
-      λ rising.
-          splits_down b.rows.items.now b.order.items.now b.count c.args.id.bytes rising low high middle (omega arith) up (omega arith)
-          (sym c.is_before.ensures ∙ c.if-is_before.false) (c.loop-low.invariant.2 rising),
-    )
-
-pub returns : goal.returns
-returns g c =
-    let b = c.args.self.now in
-    let met : c.loop-low.high ≡ c.loop-low.low = omega arith in
-    record {
-      within = omega arith;
-      splits = λ rising. subst (λ x. Splits b.rows.items.now b.order.items.now b.count c.args.id.bytes c.loop-low.low x) met (c.loop-low.invariant.2 rising);
-    }
+    let rows = b.rows.now in
+    let order = b.order.now in
+    let n = b.count in
+    let id = c.args.id.bytes in
+    let before = comes rows order n id rising b.within b.listed in
+    let place = c.partition_point.result in
+    let is = c.by_id.ensures in
+    splits_at rows order n id rising b.within b.listed place (omega (arith, ap length is, length-take-le n order b.listed))
+    (subst (λ l. IsPartitionPoint (λ a. before a ≡ true) (λ a. before a ≡ false) l place) is
+    (IsPartitionPoint-from_clause before c.by_id.result.now place c.partition_point.ensures.partitioned
+    (subst (IsPartitionedBy before) (sym is) (parted rows order n id rising b.within b.listed)) (λ a r f k. search (rules, tests))))
