@@ -46,7 +46,6 @@ impl<'b> Output<'b> {
         self.put_bytes(&x.to_be_bytes());
     }
 
-    // apart from the shorter one: no trait has the big-endian bytes of both types
     pub(crate) fn put_long(&mut self, x: usize)
         requires { Room self.old 8 }
         ensures moved { Moved self.old self.new 8 }

@@ -25,7 +25,6 @@ pub fn word(file: &[u8], at: usize) -> u32
     u32::from_be_bytes(*file[at..].first_chunk().unwrap())
 }
 
-// apart from the shorter one: no trait has the big-endian bytes of both types
 pub fn long_word(file: &[u8], at: usize) -> u64
     requires { at + 8 ≤ length file.now }
     ensures { result ≡ long_at file.now at }
