@@ -11,10 +11,11 @@ pub fn visits(marks: &[u8]) -> u32
     requires { length marks.now ≤ 65536 }
     ensures { result ≡ count_by (λ m. nat_eq m 1) marks.now }
 {
+    // summed, which takes many marks at a time, where `filter` and `count` branch on each
     marks
         .iter()
-        .filter(|mark| **mark == Mark::OnTrail as u8)
-        .count() as u32
+        .map(|mark| u32::from(*mark == Mark::OnTrail as u8))
+        .sum()
 }
 
 impl<K: LabelKind> Question<'_, '_, K> {
@@ -36,8 +37,11 @@ pub fn restore(marks: &mut [u8])
     ensures { (k : ℕ) → k < length marks.old → slice_index marks.new k ≡ restored (slice_index marks.old k) }
 {
     for mark in marks.iter_mut() {
-        if *mark == Mark::Reaching as u8 {
-            *mark = Mark::OnTrail as u8;
-        }
+        // written in any case, for the same reason
+        *mark = if *mark == Mark::Reaching as u8 {
+            Mark::OnTrail as u8
+        } else {
+            *mark
+        };
     }
 }

@@ -3,7 +3,7 @@ use Rattle.std.proofs.Common.{◌≡◌, ℕ, zero, suc, ◌+◌, ◌-◌, ◌<�
 use borrow.Rule.Slice.PartMut.{put_mid}
 use Rattle.std.specs.List.Sorted.{IsPermutation}
 use Rattle.std.proofs.lemmas.Bool.{cases_eq}
-use Rattle.std.proofs.lemmas.List.{take_all, take-append-le, take_more, take_more_set, get_or_default, length-set}
+use Rattle.std.proofs.lemmas.List.{take_all, take-append-le, take_more, take_more_set, length-set}
 use Rattle.std.proofs.lemmas.Slice.{take-put_mid, drop-put_mid}
 use Rattle.std.proofs.lemmas.List.Sorted.{IsPermutation-sym, IsPermutation-trans, IsPermutation-cons, IsPermutation-to_front}
 use Rattle.frontier.specs.Heaps.{parent, First, Queued}
@@ -35,10 +35,9 @@ module _ {X : Type 0} (before : X → X → Bool) where
         (λ ne. chain before o _ _ _ (q k d (omega arith) lt) (after_root b (parent k) (omega arith) (omega arith)))
         (cases_eq k 0)
 
-  pub root_first : Order before → (xs : List X) (x : X) → Queued before xs (length xs) → x ≡ get_or xs 0 x → First before xs (length xs) x
-  root_first o xs x q root k d lt =
-      let at = root ∙ get_or_default xs 0 x d (omega arith) in
-      same_or_after before o x (get_or xs k d) (ap (before (get_or xs k d)) at ∙ after_root o xs (length xs) q d k k (omega arith) lt)
+  pub root_first : Order before → (xs : List X) (n : ℕ) (x : X) → Queued before xs n → ((d : X) → x ≡ get_or xs 0 d) → First before xs n x
+  root_first o xs n x q root k d lt =
+      same_or_after before o x (get_or xs k d) (ap (before (get_or xs k d)) (root d) ∙ after_root o xs n q d k k (omega arith) lt)
 
 module _ {X : Type 0} (x : X) where
   pub put_holds : (xs ys : List X) (last : ℕ) → length xs ≡ last + 1 → IsPermutation (set xs last x) ys → IsPermutation (x ∷ take last xs) ys

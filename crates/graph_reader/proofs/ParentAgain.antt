@@ -5,7 +5,7 @@ use Rattle.graph_file.specs.Encoding.{extra}
 use Rattle.graph_file.specs.ParentWords.{no_parent, mark}
 use Rattle.graph_reader.specs.declared.parts.Parts.{Parts}
 use Rattle.std.specs.Result.{ResultUnwrapsOrElse}
-use Rattle.arrayvec.specs.ArrayVec.{ArrayVec}
+use Rattle.graph_reader.specs.declared.parent_list.ParentList.{ParentList}
 use Rattle.history.specs.declared.load_fault.ChunkFault.{ChunkFault}
 use Rattle.graph_reader.specs.Holding.{listed}
 use Rattle.graph_reader.specs.Parents.{led_by, others_of, parents_by}
@@ -18,7 +18,7 @@ pub never_ok : {X : Type 0} {A : Type 0} (place : ℕ) (x : X) → ◌≡◌ {A 
 never_ok place x e = let z : ◌≡◌ {A = ℕ} 0 1 = cc e in absurd (omega arith)
 
 -- what was read of a right commit, or else a default, is its parents
-pub unwrapped : (P : ArrayVec ℕ → Type 0) (r : Result (ArrayVec ℕ) ChunkFault) (v : ArrayVec ℕ) (read : Result (List ℕ) ℕ) (ps : List ℕ) →
+pub unwrapped : (P : ParentList → Type 0) (r : Result ParentList ChunkFault) (v : ParentList) (read : Result (List ℕ) ℕ) (ps : List ℕ) →
     ResultUnwrapsOrElse r P v → as_read r ≡ as_fault read → read ≡ Ok ps → listed v ≡ ps
 unwrapped P (Ok l) v read ps u e is = ap listed u ∙ (let z : ◌≡◌ {A = Result (List ℕ) ChunkFault} (Ok (listed l)) (Ok ps) = e ∙ ap as_fault is in cc)
 unwrapped P (Err fault) v read ps u e is = let z : ◌≡◌ {A = Result (List ℕ) ChunkFault} (Err fault) (Ok ps) = e ∙ ap as_fault is in let y : ◌≡◌ {A = ℕ} 0 1 = cc in absurd (omega arith)

@@ -1,11 +1,11 @@
 -- What the parts of a file are. Assumes nothing.
-use Rattle.std.specs.Prelude.{◌≡◌, ℕ, List}
+use Rattle.std.specs.Prelude.{◌≡◌, ℕ, List, take}
 use Rattle.graph_reader.specs.declared.parts.Parts.{Parts}
-use Rattle.arrayvec.specs.ArrayVec.{ArrayVec}
+use Rattle.graph_reader.specs.declared.parent_list.ParentList.{ParentList}
 use Rattle.graph_reader.specs.Bytes.{ids_begin, data_begin, data_end, told_count, told_edges, id_chunk, data_chunk, edge_chunk}
 
-abbrev pub listed : ArrayVec ℕ → List ℕ
-listed l = l.items
+abbrev pub listed : ParentList → List ℕ
+listed l = take l.size l.positions
 
 -- the parts are those of these bytes
 pub record Holds (bytes : List ℕ) (f : Parts) : Type 0 where

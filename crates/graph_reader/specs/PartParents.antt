@@ -2,7 +2,7 @@
 use Rattle.std.specs.Prelude.{ℕ, List, ◌++◌, drop, Ok, Err, Result}
 use Rattle.graph_file.specs.Layout.{Row}
 use Rattle.graph_reader.specs.declared.parts.Parts.{Parts}
-use Rattle.arrayvec.specs.ArrayVec.{ArrayVec}
+use Rattle.graph_reader.specs.declared.parent_list.ParentList.{ParentList}
 use Rattle.history.specs.declared.load_fault.ChunkFault.{ChunkFault}
 use Rattle.history.specs.declared.load_fault.ChunkFault.TheVariants.{WrongParent}
 use Rattle.graph_reader.specs.Bytes.{row_at, rows_in, words_in}
@@ -10,7 +10,7 @@ use Rattle.graph_reader.specs.Holding.{listed}
 use Rattle.graph_reader.specs.Parents.{listed_from, others_of, parents_by, parents_from}
 
 -- the positions of a list that was read
-abbrev pub as_read : Result (ArrayVec ℕ) ChunkFault → Result (List ℕ) ChunkFault
+abbrev pub as_read : Result ParentList ChunkFault → Result (List ℕ) ChunkFault
 as_read (Ok l) = Ok (listed l)
 as_read (Err fault) = Err fault
 

@@ -12,6 +12,7 @@ mod first_bytes;
 mod id_chunk;
 mod levels;
 mod parent_list;
+mod parent_lists;
 mod parents;
 mod parts;
 mod reading;

@@ -17,7 +17,7 @@ use history::ChunkFault::WrongParent;
 impl Parts<'_> {
     // Adds the list that begins with the word of index `next`. By index: it counts the words of the list, and gives the byte place of a fault.
     fn add_listed(&self, mut list: ParentList, next: usize) -> Result<ParentList, ChunkFault>
-        requires short { length (listed list) ≤ 1 }
+        requires short { list.size ≤ 1 }
         requires within { next ≤ self.now.entries }
         ensures { as_read result ≡ as_fault (behind (listed list) (list_at self.now next)) }
     {
@@ -45,7 +45,7 @@ impl Parts<'_> {
         position: usize,
         next: usize,
     ) -> Result<ParentList, ChunkFault>
-        requires short { length (listed list) ≤ 1 }
+        requires short { list.size ≤ 1 }
         requires held { position < self.now.count }
         requires within { next ≤ 4294967296 }
         ensures { as_read result ≡ as_fault (behind (listed list) (others_at self.now position next)) }

@@ -1,10 +1,7 @@
 -- The order of ids is total. Assumes nothing.
-use Rattle.std.proofs.Common.{◌≡◌, ℕ, ◌<◌, Bool, true, false, ◌&&◌, eqb, ltb, List, [], ◌∷◌, sym, refl, Some, ap₂, ⊎_elim, arith, ◌∙◌}
+use Rattle.std.proofs.Common.{◌≡◌, ℕ, ◌+◌, ◌<◌, Bool, true, false, ◌&&◌, ◌||◌, eqb, ltb, List, [], ◌∷◌, length, get_or, drop, sym, refl, ap, ◌∙◌, ap₂, ⊎_elim, arith}
 use Rattle.std.proofs.lemmas.Bool.{ltb-true, ltb-false, eqb-true, eqb-false, lt-ltb, le-ltb, eq-eqb, ne_eqb, and_parts, and_cases, or_cases, or_parts, or_left, or_right, or_from, and_from, and_left, and_right, cases_Bool, both_ways}
-use Rattle.std.specs.Ordering.{nat_cmp, is_lt, is_some_and}
-use Rattle.std.specs.Cmp.Lexicographic.{slice_partial_cmp}
-use Rattle.std.proofs.lemmas.Bool.Decides.{nat_tests}
-use Rattle.std.proofs.lemmas.Cmp.{same_from_slice_cmp_tested}
+use Rattle.std.proofs.lemmas.List.{drop_more}
 use Rattle.history.specs.Ids.{precedes, same}
 
 pub precedes_transitive : (xs ys zs : List ℕ) → precedes xs ys ≡ true → precedes ys zs ≡ true → precedes xs zs ≡ true
@@ -76,6 +73,25 @@ pub same_itself : (xs : List ℕ) → same xs xs ≡ true
 same_itself [] = refl
 same_itself (x ∷ xs) = and_from _ _ (eq-eqb x x refl) (same_itself xs)
 
--- as the order of arrays has it
-pub precedes_from_lt : (xs ys : List ℕ) (r : Bool) → r ≡ is_some_and is_lt (slice_partial_cmp (λ x y. Some (nat_cmp x y)) xs ys) → r ≡ precedes xs ys
-precedes_from_lt = same_from_slice_cmp_tested nat_cmp is_lt precedes refl (λ _ _. refl) (λ _ _. refl) (λ x y xs ys o h. grind (arith, nat_tests))
+-- a byte on: equal so far
+pub precedes_on : (xs ys : List ℕ) (i : ℕ) → i < length xs → i < length ys → get_or xs i 0 ≡ get_or ys i 0 →
+    precedes (drop i xs) (drop i ys) ≡ precedes (drop (i + 1) xs) (drop (i + 1) ys)
+precedes_on xs ys i a b e =
+    let x = get_or xs i 0 in
+    let y = get_or ys i 0 in
+    ap₂ precedes (drop_more xs i 0 a) (drop_more ys i 0 b)
+    ∙ ap₂ (λ p q. p || (q && precedes (drop (i + 1) xs) (drop (i + 1) ys))) (le-ltb x y (omega arith)) (eq-eqb x y e)
+
+-- the first byte that differs decides
+pub precedes_at : (xs ys : List ℕ) (i : ℕ) → i < length xs → i < length ys → (get_or xs i 0 ≡ get_or ys i 0 → ⊥) →
+    precedes (drop i xs) (drop i ys) ≡ ltb (get_or xs i 0) (get_or ys i 0)
+precedes_at xs ys i a b n =
+    let x = get_or xs i 0 in
+    let y = get_or ys i 0 in
+    ap₂ precedes (drop_more xs i 0 a) (drop_more ys i 0 b)
+    ∙ ap (λ q. ltb x y || (q && precedes (drop (i + 1) xs) (drop (i + 1) ys))) (ne_eqb x y n)
+    ∙ or_nothing (ltb x y)
+  where
+    or_nothing : (b : Bool) → (b || false) ≡ b
+    or_nothing true = refl
+    or_nothing false = refl

@@ -20,12 +20,11 @@ impl<'a, K: LabelKind> CommitGraph<'a, K> {
     }
 
     // Whether the number is a commit's, and its id comes before the other.
-    #[tactic(auto, using(crate::proofs::Ids::precedes_from_lt))]
     fn comes_before(&self, number: u32, id: ObjectId) -> bool
         ensures { result ≡ (nat_lt number self.now.count && precedes (row_of self.now.rows.now number).id.bytes id.bytes) }
     {
         let number = number as usize;
-        number < self.count && self.id_at(number) < id
+        number < self.count && self.id_at(number).is_before(id)
     }
 
     // How many commits have an id before this one, found by halving.

@@ -2,7 +2,6 @@
 ghost use Rattle.std.specs.Prelude.{◌≡◌, ℕ, ◌+◌, ◌<◌, ◌≤◌, List, [], map, length, take, None, sum_by, slice_index, slice_set};
 ghost use Rattle.graph_reader.specs.Bytes.{told_count};
 ghost use Rattle.graph_reader.specs.FileCommits.{file_commit, renumbered};
-ghost use Rattle.graph_reader.specs.Holding.{listed};
 ghost use Rattle.graph_reader.specs.Verdict.{parents_in, total_of};
 ghost use Rattle.history.specs.Graph.{Filled, capacity, parent_capacity};
 ghost use Rattle.history.specs.History.{find_id};
@@ -11,19 +10,20 @@ ghost use Rattle.history.specs.Room.{Appended};
 ghost use Rattle.loading.specs.Filling.{Roomy, Admitted};
 ghost use Rattle.loading.specs.Waiting.{AllWait, listed_by};
 
+use arrayvec::ArrayVec;
 use frontier::{ByLevel, Queue};
-use graph_reader::{GraphFile, ParentList};
+use graph_reader::GraphFile;
 use history::CommitGraph;
 use labels::LabelKind;
 
 // The numbers that the positions of a list were given.
 #[tactic(auto, using(std::proofs::lemmas::List::map_more))]
-fn numbers_of(positions: &[u32], places: &[u32]) -> ParentList
+fn numbers_of(positions: &[u32], places: &[u32]) -> ArrayVec<u32, 64>
     requires few { length positions.now ≤ 64 }
     requires held { (j : ℕ) → j < length positions.now → slice_index positions.now j < length places.now }
-    ensures { listed result ≡ map (λ q. slice_index places.now q) positions.now }
+    ensures { result.items ≡ map (λ q. slice_index places.now q) positions.now }
 {
-    let mut numbers = ParentList::new();
+    let mut numbers = ArrayVec::new();
     // pushed one by one: `collect` would ask for an allocator and could fail
     for position in positions {
         numbers.push(places[*position as usize]);

@@ -32,7 +32,7 @@ impl FromStr for HexId {
 
 impl fmt::Display for HexId {
     fn fmt<W: fmt::Write>(&self, f: &mut fmt::Formatter<W>) -> fmt::Result {
-        // by byte: what `hex` writes is a list or a buffer of bytes, which would have to be read as text again
+        // by byte: what `hex` writes needs memory of its own, or is a buffer of bytes, which would have to be read as text again
         for b in self.0.bytes {
             write!(f, "{b:02x}")?;
         }

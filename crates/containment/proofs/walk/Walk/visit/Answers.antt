@@ -10,9 +10,6 @@ push-requires g c =
     let off = eqb-true _ _ (and_parts _ _ (sym c.is_wanted.ensures ∙ c.if-not-is_wanted.false)).0 in
     record { room = room_left w c.args.number lt off }
 
-pub invariant_of-self-clause-bits : goal.invariant_of-self-clause-bits
-invariant_of-self-clause-bits g c = bits_set c.args.self.now.marks.now c.args.number c.args.self.now.bits
-
 pub invariant_of-self-clause-marked : goal.invariant_of-self-clause-marked
 invariant_of-self-clause-marked g c =
     let w = c.args.self.now in
@@ -30,3 +27,6 @@ invariant_of-self-clause-distinct g c =
     let lt : c.args.number < length w.marks.now = omega (arith, c.requires.within, w.sized) in
     let off = eqb-true _ _ (and_parts _ _ (sym c.is_wanted.ensures ∙ c.if-not-is_wanted.false)).0 in
     distinct_join w c.args.number lt off q.entries.now q.count done.count done.long done.holds
+
+pub invariant_of-self-clause-bits : goal.invariant_of-self-clause-bits
+invariant_of-self-clause-bits g c = bits_set c.args.self.now.marks.now c.args.number c.args.self.now.bits

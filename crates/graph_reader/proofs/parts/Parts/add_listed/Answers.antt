@@ -17,7 +17,7 @@ returns-in_default c =
 pub returns-then-word-self-2 : goal.returns-then-word-self-2
 returns-then-word-self-2 c =
     let k = c.loop-k.k in
-    ap Ok c.push-then-word-self-2.ensures.items
+    ap Ok c.push-then-word-self-2.ensures.list
     ∙ ap as_fault (sym (c.loop-k.invariant.1 ∙ list_closed c.args.self.now (listed c.loop-k.list) (c.args.next + k) k c.in-Some.word
     c.in-Some.ensures.0 c.in-Some.ensures.1 c.loop-k-test.true c.if-word-self.false c.if-k-gt0.true c.if-word-ge-MARK.true c.if-word-self-2.true))
 
@@ -42,10 +42,10 @@ loop-k-preserved c =
     let k = c.loop-k.k in
     let at = c.args.next + k in
     let next : at + 1 ≡ c.args.next + (k + 1) = omega arith in (
-      omega (arith, c.push.ensures.len, c.loop-k.invariant.0),
+      omega (arith, c.push.ensures.size, c.loop-k.invariant.0),
       c.loop-k.invariant.1
           ∙ list_more f (listed c.loop-k.list) at k c.in-Some.word c.in-Some.ensures.0 c.in-Some.ensures.1 c.loop-k-test.true c.if-word-self.true
-          ∙ ap (λ xs. list_from f xs (at + 1) (k + 1)) (sym c.push.ensures.items)
+          ∙ ap (λ xs. list_from f xs (at + 1) (k + 1)) (sym c.push.ensures.list)
           ∙ ap (λ a. list_from f (listed c.push.new.self) a (k + 1)) next,
     )
 
